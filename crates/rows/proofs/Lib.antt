@@ -1,0 +1,5 @@
+pub mod Order
+pub mod Laws
+pub mod Places
+mod Slices
+pub mod Used
