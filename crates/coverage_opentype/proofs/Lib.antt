@@ -1,0 +1,4 @@
+pub mod Choosing
+pub mod Covering
+pub mod Rendering
+pub mod Unbroken
