@@ -4,7 +4,7 @@ use Rattle.std.proofs.lemmas.List.{take_at, drop_all, append-nil}
 use Rattle.std.proofs.lemmas.Bool.{and_parts, cases_Bool, leb-true, eqb-true, le-leb, cond-true}
 use Rattle.refusals.specs.declared.CodecFault.{CodecFault}
 use Rattle.refusals.specs.declared.CodecFault.TheVariants.{NoMeaning, PastEnd, NotAdmitted, NoSpace}
-use Rattle.bytes.specs.BigEndian.{word16}
+use Rattle.data_bytes.specs.BigEndian.{word16}
 use Rattle.coverage.specs.Glyphs.{is_glyph_list_of, GlyphList}
 use Rattle.coverage.specs.Meaning.{Meant, glyphs_meant, counted, ended, copied, Sized, written_as}
 use Rattle.coverage_list.specs.Arrays.{meaning}

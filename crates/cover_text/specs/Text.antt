@@ -3,7 +3,7 @@ use Rattle.std.specs.Prelude.{ℕ, ◌+◌, ◌/◌, ◌%◌, cond, List, [], �
 use Rattle.std.specs.List.{flat_map}
 use Rattle.refusals.specs.declared.CodecFault.{CodecFault}
 use Rattle.refusals.specs.declared.CodecFault.TheVariants.{NoMeaning, PastEnd, NotAdmitted, NoSpace}
-use Rattle.bytes.specs.BigEndian.{word16}
+use Rattle.data_bytes.specs.BigEndian.{word16}
 use Rattle.coverage.specs.Meaning.{Meant}
 use Rattle.coverage_list.specs.Format1.{array_meaning, array_bytes}
 use Rattle.coverage_opentype.specs.declared.ranges.GlyphRange.{GlyphRange}

@@ -1,18 +1,20 @@
 // The text of a coverage table: what it covers, and how the codecs write that.
 //
 // It is for a tool, so it allocates; the codecs that it calls work in lent memory.
+#![tactic(auto)]
+
 ghost use Rattle.std.specs.Prelude.{◌≡◌, ℕ, ◌<◌, ◌⊎◌, List, ◌++◌, length, IfOk, Some, Ok, string_bytes, codes, OnOk};
-ghost use Rattle.bytes.specs.BigEndian.{word16};
+ghost use Rattle.data_bytes.specs.BigEndian.{word16};
 ghost use Rattle.coverage.specs.Glyphs.{GlyphList};
 ghost use Rattle.coverage.specs.Meaning.{glyphs_meant, counted};
 ghost use Rattle.coverage_list.specs.Format1.{array_meaning, array_bytes};
 ghost use Rattle.coverage_opentype.specs.OpenType.{open_type_meaning, open_type_bytes};
 ghost use Rattle.cover_text.specs.Text.{fault_words_of, range_text_of, runs_text, hex_digit_of, hex_byte, hex_text, reading, reading_text_of, format_line_of, glyphs_line_of, list_line_of, writes_line_of, fault_line_of, lines_of, coverage_text_of};
 
-use bytes::word_at;
 use coverage::codec::CoverageCodec;
 use coverage_list::ListCodec;
 use coverage_opentype::opentype::OpenTypeCodec;
+use data_bytes::word_at;
 use refusals::CodecFault;
 use std::alloc::{AllocError, Global};
 

@@ -6,9 +6,9 @@ use Rattle.std.proofs.lemmas.Slice.{drop-append-drop}
 use Rattle.std.proofs.lemmas.Bool.{and_parts, and_from, leb-true, eqb-true, le-leb, lt-leb, eq-eqb, cases_Bool, cond-true, cond-false}
 use Rattle.refusals.specs.declared.CodecFault.{CodecFault}
 use Rattle.refusals.specs.declared.CodecFault.TheVariants.{NoMeaning, NoSpace}
-use Rattle.bytes.specs.BigEndian.{word16, put16}
-use Rattle.bytes.specs.Values.{value_bytes, values, values_at}
-use Rattle.bytes.proofs.ValueLists.{length-value_bytes, value_bytes-append, values_value_bytes, length-values_at, get_d_values_at, word16_front, length_front, values_at_front, laid, lay_value}
+use Rattle.data_bytes.specs.BigEndian.{word16, put16}
+use Rattle.data_bytes.specs.Values.{value_bytes, values, values_at}
+use Rattle.data_bytes.proofs.ValueLists.{length-value_bytes, value_bytes-append, values_value_bytes, length-values_at, get_d_values_at, word16_front, length_front, values_at_front, laid, lay_value}
 use Rattle.coverage.specs.Glyphs.{rises, small, is_glyph_list_of, GlyphList}
 use Rattle.coverage.specs.Meaning.{Meant, glyphs_meant, counted, written_as}
 use Rattle.coverage.proofs.Lists.{Listed, listed, glyph_list}

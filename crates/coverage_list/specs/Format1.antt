@@ -1,7 +1,7 @@
 -- Coverage format 1 of OpenType: the value 1, the number of glyphs, and the glyphs in rising order.
 use Rattle.std.specs.Prelude.{ℕ, ◌+◌, ◌*◌, Bool, cond, ◌&&◌, List, ◌∷◌, length, Some, None, Option, ◌==◌, nat_le}
-use Rattle.bytes.specs.BigEndian.{word16}
-use Rattle.bytes.specs.Values.{value_bytes, values_at}
+use Rattle.data_bytes.specs.BigEndian.{word16}
+use Rattle.data_bytes.specs.Values.{value_bytes, values_at}
 use Rattle.coverage.specs.Glyphs.{is_glyph_list_of}
 use Rattle.coverage.specs.Meaning.{Meant}
 

@@ -1,6 +1,8 @@
 // The list codec: coverage format 1 alone, an array of glyphs.
+#![tactic(auto)]
+
 ghost use Rattle.std.specs.Prelude.{◌≡◌, ℕ, ◌+◌, ◌*◌, ◌<◌, ◌≤◌, true, ◌&&◌, List, ◌++◌, length, drop};
-ghost use Rattle.bytes.specs.Values.{values_at};
+ghost use Rattle.data_bytes.specs.Values.{values_at};
 ghost use Rattle.coverage.specs.Glyphs.{rises, small, GlyphList};
 ghost use Rattle.coverage.specs.Meaning.{counted, Sized, Written, written_as};
 ghost use Rattle.coverage_list.specs.Format1.{array_meaning, array_bytes, array_span};
@@ -8,9 +10,9 @@ ghost use Rattle.coverage_list.specs.Arrays;
 ghost use Rattle.coverage.proofs.Lists.{list_parts};
 ghost use Rattle.std.proofs.Common.{rules};
 
-use bytes::{put_word, word_at};
 use coverage::codec::CoverageCodec;
 use coverage::glyphs::is_glyph_list;
+use data_bytes::{put_word, word_at};
 use refusals::CodecFault;
 
 /// Coverage format 1 and nothing else.

@@ -3,8 +3,8 @@ use Rattle.std.specs.Prelude.{◌≡◌, ℕ, ◌+◌, ◌*◌, ◌%◌, ◌<◌
 use Rattle.std.proofs.Common.{sym, ap, ◌∙◌, subst, inl, inr, ⊎_elim, arith}
 use Rattle.std.proofs.lemmas.Bool.{both_ways, and_parts, and_from, leb-true, eqb-true, le-leb, lt-leb, lt-ltb, le-ltb, eq-eqb, cases_lt, cond-true, cond-false}
 use Rattle.refusals.specs.declared.CodecFault.TheVariants.{NoSpace, NotAdmitted}
-use Rattle.bytes.specs.BigEndian.{word16}
-use Rattle.bytes.proofs.ValueLists.{laid}
+use Rattle.data_bytes.specs.BigEndian.{word16}
+use Rattle.data_bytes.proofs.ValueLists.{laid}
 use Rattle.coverage.specs.Glyphs.{is_glyph_list_of, GlyphList}
 use Rattle.coverage.specs.Meaning.{Meant, written_as}
 use Rattle.coverage_list.specs.Format1.{array_meaning, array_bytes, array_span}

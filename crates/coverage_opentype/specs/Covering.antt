@@ -6,8 +6,8 @@ use Rattle.std.proofs.lemmas.List.FromFn.{length-range_with_len, get_or-range_wi
 use Rattle.std.proofs.lemmas.List.{append-nil, at_drop_more, at_drop_all, take_more, take_all, take-append-drop, drop_more, get_or_append_left, get_or-append-add, get_or-append_right, length-take-le, ext_get_or, take_at, set_at}
 use Rattle.std.proofs.lemmas.Slice.{drop-append-drop}
 use Rattle.std.proofs.lemmas.Bool.{both_ways, and_parts, and_from, and_left, and_right, ltb-true, leb-true, eqb-true, lt-ltb, le-ltb, le-leb, lt-leb, eq-eqb, ne_eqb, cases_Bool, cases_lt, cases_eq, cond-true, cond-false}
-use Rattle.bytes.specs.BigEndian.{word16}
-use Rattle.bytes.proofs.ValueLists.{word16_front, length_front}
+use Rattle.data_bytes.specs.BigEndian.{word16}
+use Rattle.data_bytes.proofs.ValueLists.{word16_front, length_front}
 use Rattle.coverage.specs.Glyphs.{above, rises, small, is_glyph_list_of, GlyphList, index_in}
 use Rattle.coverage.proofs.Lists.{Listed, listed, glyph_list, above_rises, index_at, index_none}
 use Rattle.coverage_opentype.specs.declared.ranges.GlyphRange.{GlyphRange}

@@ -4,9 +4,9 @@ use Rattle.std.proofs.Common.{sym, ap, ◌∙◌, subst, append_assoc, arith, le
 use Rattle.std.proofs.lemmas.List.{take_more, take_all, drop_more, drop_all, length-take-le, ext_get_or, length-drop, drop-drop}
 use Rattle.std.proofs.lemmas.Slice.{drop-append-drop}
 use Rattle.std.proofs.lemmas.Bool.{and_parts}
-use Rattle.bytes.specs.BigEndian.{word16, put16}
-use Rattle.bytes.specs.Values.{value_bytes}
-use Rattle.bytes.proofs.ValueLists.{length-value_bytes, value_bytes-append, word16-value_bytes, laid, length_laid, lay_value}
+use Rattle.data_bytes.specs.BigEndian.{word16, put16}
+use Rattle.data_bytes.specs.Values.{value_bytes}
+use Rattle.data_bytes.proofs.ValueLists.{length-value_bytes, value_bytes-append, word16-value_bytes, laid, length_laid, lay_value}
 use Rattle.coverage.specs.Glyphs.{above, rises, is_glyph_list_of, GlyphList}
 use Rattle.coverage.proofs.Lists.{listed, above_rises, rises_places}
 use Rattle.coverage_opentype.specs.declared.ranges.GlyphRange.{GlyphRange}

@@ -1,6 +1,6 @@
 // The OpenType codec over the two formats.
 ghost use Rattle.std.specs.Prelude.{◌≡◌, ℕ, true, ◌&&◌, List, length, ◌==◌, nat_le};
-ghost use Rattle.bytes.specs.BigEndian.{word16};
+ghost use Rattle.data_bytes.specs.BigEndian.{word16};
 ghost use Rattle.coverage.specs.Glyphs.{GlyphList};
 ghost use Rattle.coverage.specs.Meaning.{Sized, Written, written_as};
 ghost use Rattle.coverage_opentype.specs.OpenType.{open_type_meaning, open_type_bytes, open_type_span, RunsAreUnbroken};
@@ -12,9 +12,9 @@ ghost use Rattle.std.proofs.Common.{rules};
 use crate::ranges::{
     range_count, range_end, range_glyph, range_index, ranges_into, run_count, write_ranges,
 };
-use bytes::word_at;
 use coverage::codec::CoverageCodec;
 use coverage_list::{ListCodec, write_array};
+use data_bytes::word_at;
 use refusals::CodecFault;
 
 /// Coverage formats 1 and 2; writes the shorter, and format 1 where they tie.

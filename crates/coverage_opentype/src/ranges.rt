@@ -1,13 +1,13 @@
 // Coverage format 2: ranges of glyphs.
 ghost use Rattle.std.specs.Prelude.{◌≡◌, ℕ, ◌+◌, ◌-◌, ◌*◌, ◌<◌, ◌≤◌, true, List, ◌++◌, length, take, drop};
 ghost use Rattle.std.specs.List.{range_with_len};
-ghost use Rattle.bytes.specs.BigEndian.{put16};
+ghost use Rattle.data_bytes.specs.BigEndian.{put16};
 ghost use Rattle.coverage.specs.Glyphs.{GlyphList, index_in};
 ghost use Rattle.coverage.specs.Meaning.{counted, ended, glyph_at, indexed, copied};
 ghost use Rattle.coverage_opentype.specs.Format2.{covers, range_at_of, ranges_at, covered, in_order, range_meaning, runs, range_bytes, range_span};
 ghost use Rattle.coverage_opentype.specs.Checked.{Totalled, RangesRead, placed, RunsCounted};
 
-use bytes::{put_word, word_at};
+use data_bytes::{put_word, word_at};
 use refusals::CodecFault;
 
 /// A range record: the glyphs from `start` to `end`, the first of them at the coverage index `index`.

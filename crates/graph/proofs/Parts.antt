@@ -1,7 +1,7 @@
 -- Elements of a stretch of a list, and elements by number.
 use Rattle.std.proofs.Common.{◌≡◌, ℕ, zero, suc, ◌+◌, ◌*◌, ◌<◌, ◌≤◌, List, [], ◌∷◌, length, get_or, take, drop, Some, None, Option, sym, refl, ap, ◌∙◌, add_assoc, arith}
 use Rattle.std.proofs.lemmas.List.{get_or-take, get_or-drop}
-use Rattle.bytes.specs.BigEndian.{word16}
+use Rattle.data_bytes.specs.BigEndian.{word16}
 use Rattle.model.specs.Rules.{nth}
 
 pub stretch_at : {X : Type 0} (xs : List X) (a n i : ℕ) (d : X) → i < n → get_or (take n (drop a xs)) i d ≡ get_or xs (a + i) d

@@ -8,7 +8,7 @@ use Rattle.words.specs.declared.Width.{Width}
 use Rattle.words.specs.declared.Width.TheVariants.{Two, Four}
 use Rattle.words.specs.Grammar.{StreamLink, real, virtual, StreamTable, Stream, link_tokens}
 use Rattle.words.specs.Reading.{parse}
-use Rattle.bytes.specs.Values.{value_bytes}
+use Rattle.data_bytes.specs.Values.{value_bytes}
 use Rattle.graph.specs.declared.VertexRow.{VertexRow}
 use Rattle.model.specs.Tables.{Slot, Table}
 use Rattle.model.specs.Loading.{slots_of, virtuals_of}

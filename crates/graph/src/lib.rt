@@ -1,13 +1,15 @@
 // The graph in lent memory: the vertex record, and the view through which tables are read.
+#![tactic(auto)]
+
 ghost use Rattle.std.specs.Prelude.{◌≡◌, ℕ, ◌+◌, ◌-◌, ◌<◌, ◌≤◌, length, IfSome, MatchOption, slice_index_or};
-ghost use Rattle.bytes.specs.BigEndian.{word16};
+ghost use Rattle.data_bytes.specs.BigEndian.{word16};
 ghost use Rattle.rows.specs.Kinds.{zero_link};
 ghost use Rattle.model.specs.Rules.{nth};
 ghost use Rattle.model.specs.Splitting.{lent};
 ghost use Rattle.graph.specs.Holding.{room};
 ghost use Rattle.graph.specs.Memory.{zero_vertex, memory, vertex_at, part_of, rows_of, Within};
 
-use bytes::word_at;
+use data_bytes::word_at;
 use rows::LinkRow;
 
 /// What the graph keeps of a vertex. A row that is not in use has zero in every field.

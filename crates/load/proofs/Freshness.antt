@@ -9,7 +9,7 @@ use Rattle.rows.specs.declared.LinkRow.{LinkRow}
 use Rattle.rows.specs.Kinds.{zero_link, zero_parent}
 use Rattle.words.specs.Grammar.{StreamTable, Stream}
 use Rattle.words.specs.Reading.{links_in, bytes_in}
-use Rattle.bytes.proofs.ValueLists.{length-value_bytes}
+use Rattle.data_bytes.proofs.ValueLists.{length-value_bytes}
 use Rattle.coverage.specs.Meaning.{Meant}
 use Rattle.model.specs.Forest.{Lookup, Taken, Model}
 use Rattle.model.specs.Tables.{Slot, Table, model_walk}

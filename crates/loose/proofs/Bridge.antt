@@ -9,7 +9,7 @@ use Rattle.rows.specs.declared.LinkRow.{LinkRow}
 use Rattle.rows.specs.Kinds.{zero_link}
 use Rattle.words.specs.declared.Width.TheVariants.{Two, Four}
 use Rattle.words.specs.Grammar.{StreamLink, real, virtual, StreamTable, Stream, FineTable, Uncounted}
-use Rattle.bytes.proofs.ValueLists.{length-value_bytes}
+use Rattle.data_bytes.proofs.ValueLists.{length-value_bytes}
 use Rattle.model.specs.Tables.{Slot, Table}
 use Rattle.model.specs.Rules.{nth}
 use Rattle.model.specs.Loading.{slots_of, bytes_of, TableAt, Loose, nowhere, nowhere_virtual, beyond, shared, Loosely, Lowest, Never}

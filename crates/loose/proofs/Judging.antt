@@ -8,7 +8,7 @@ use Rattle.rows.specs.declared.LinkRow.{LinkRow}
 use Rattle.rows.specs.declared.LinkWidth.TheVariants as row
 use Rattle.words.specs.Grammar.{StreamTable, Stream}
 use Rattle.words.proofs.Saying.{none_some}
-use Rattle.bytes.proofs.ValueLists.{length-value_bytes}
+use Rattle.data_bytes.proofs.ValueLists.{length-value_bytes}
 use Rattle.model.specs.Tables.{Slot}
 use Rattle.model.specs.Rules.{nth}
 use Rattle.model.specs.Loading.{slots_of, virtuals_of, bytes_of, Loose, nowhere, nowhere_virtual, beyond, shared}

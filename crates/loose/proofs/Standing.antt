@@ -6,8 +6,8 @@ use Rattle.std.proofs.ByRecursion.{All-append, All-weaker}
 use Rattle.rows.specs.declared.LinkRow.{LinkRow}
 use Rattle.words.specs.Grammar.{StreamTable}
 use Rattle.words.proofs.Saying.{none_some}
-use Rattle.bytes.specs.Values.{value_bytes}
-use Rattle.bytes.proofs.ValueLists.{length-value_bytes}
+use Rattle.data_bytes.specs.Values.{value_bytes}
+use Rattle.data_bytes.proofs.ValueLists.{length-value_bytes}
 use Rattle.model.specs.Rules.{nth}
 use Rattle.model.proofs.Lists.{some_same}
 use Rattle.model.proofs.LoadLists.{nth_below}

@@ -1,4 +1,6 @@
 // The test for loose links: the first vertex with a link that leads nowhere, passes the end of its table, or stands where another does.
+#![tactic(auto)]
+
 ghost use Rattle.std.specs.Prelude.{◌≡◌, ◌<◌, ◌≤◌, length, Decides, MatchOption};
 ghost use Rattle.graph.specs.Memory.{vertex_at};
 ghost use Rattle.loose.specs.Faults.{wide, Twins, Fault, Faultless, FirstFault, Owned};

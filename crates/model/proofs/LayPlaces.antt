@@ -3,11 +3,11 @@ use Rattle.std.proofs.Common.{◌≡◌, ℕ, zero, suc, ◌+◌, ◌-◌, ◌*�
 use Rattle.std.specs.List.{AllByRecursion as All}
 use Rattle.std.proofs.lemmas.List.{append-nil, get_or-drop, drop-drop, drop_at, take_at}
 use Rattle.std.proofs.ByRecursion.{All-weaker}
-use Rattle.bytes.specs.BigEndian.{word16, number_at, put_at, spelled, big_endian}
-use Rattle.bytes.specs.Values.{value_bytes, values, values_at}
-use Rattle.bytes.proofs.Places.{length_put_at}
-use Rattle.bytes.proofs.Spellings.{length_spelled, number_spelled}
-use Rattle.bytes.proofs.ValueLists.{length-value_bytes, value_bytes-append, values_value_bytes, word16-value_bytes}
+use Rattle.data_bytes.specs.BigEndian.{word16, number_at, put_at, spelled, big_endian}
+use Rattle.data_bytes.specs.Values.{value_bytes, values, values_at}
+use Rattle.data_bytes.proofs.Places.{length_put_at}
+use Rattle.data_bytes.proofs.Spellings.{length_spelled, number_spelled}
+use Rattle.data_bytes.proofs.ValueLists.{length-value_bytes, value_bytes-append, values_value_bytes, word16-value_bytes}
 use Rattle.model.specs.Tables.{Slot, slot, slots_from, zeros, extension_bytes}
 use Rattle.model.specs.Writing.{Start, start_of, offset, fill_slots}
 

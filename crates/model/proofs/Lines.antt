@@ -7,7 +7,7 @@ use Rattle.std.specs.List.{flat_map, AllByRecursion as All}
 use Rattle.refusals.specs.declared.Pool.{Pool}
 use Rattle.refusals.specs.declared.Refusal.{Refusal}
 use Rattle.refusals.specs.declared.Refusal.TheVariants.{NoLookup, NoRule, OffsetOverflow, BadCeiling, LongLigature, TooManySubtables, IsExtension, NoRoom, ShortBuffer, NoPlace}
-use Rattle.bytes.specs.Values.{value_bytes}
+use Rattle.data_bytes.specs.Values.{value_bytes}
 use Rattle.coverage.specs.Meaning.{Meant}
 use Rattle.model.specs.Forest.{Ligature, LigatureSet, Subtable, Lookup, Model}
 use Rattle.model.specs.Tables.{vertex_of, count_of, lookup_walk, ligature_table, model_walk, part_of}

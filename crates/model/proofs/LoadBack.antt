@@ -15,8 +15,8 @@ use Rattle.words.specs.declared.Width.{Width}
 use Rattle.words.specs.declared.Width.TheVariants.{Two, Four}
 use Rattle.words.specs.Grammar.{StreamLink, real, virtual, StreamTable, Stream, FineLink, FineTable, Uncounted, Fine, Spells, spelled}
 use Rattle.words.specs.Reading.{links_in, bytes_in}
-use Rattle.bytes.specs.Values.{value_bytes, values}
-use Rattle.bytes.proofs.ValueLists.{length-value_bytes, values_value_bytes}
+use Rattle.data_bytes.specs.Values.{value_bytes, values}
+use Rattle.data_bytes.proofs.ValueLists.{length-value_bytes, values_value_bytes}
 use Rattle.coverage.specs.Glyphs.{GlyphList, is_glyph_list_of, rises, small}
 use Rattle.coverage.specs.Meaning.{Meant}
 use Rattle.model.specs.Forest.{Ligature, LigatureSet, Subtable, Lookup, Taken, Model}

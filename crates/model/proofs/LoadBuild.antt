@@ -10,8 +10,8 @@ use Rattle.std.proofs.lemmas.Bool.{cases_lt, eq-eqb, ne_eqb}
 use Rattle.refusals.specs.declared.Refusal.{Refusal}
 use Rattle.words.specs.Grammar.{StreamTable, Stream, FineTable, Uncounted}
 use Rattle.words.proofs.Saying.{none_some}
-use Rattle.bytes.specs.BigEndian.{Bytes}
-use Rattle.bytes.specs.Values.{value_bytes}
+use Rattle.data_bytes.specs.BigEndian.{Bytes}
+use Rattle.data_bytes.specs.Values.{value_bytes}
 use Rattle.coverage.specs.Meaning.{Meant}
 use Rattle.model.specs.Forest.{Ligature, LigatureSet, Subtable, Lookup, Model}
 use Rattle.model.specs.Tables.{Slot, slot, slots_from, Table, Placed, zeros, head, lookup_table, extension_table, subtable_table, coverage_table, set_table, ligature_table, set_walk, subtable_walk, lookup_walk, model_walk}

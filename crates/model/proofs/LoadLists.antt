@@ -4,8 +4,8 @@ use Rattle.std.specs.List.{ContainsAt as Has, AllByRecursion as All, range_with_
 use Rattle.std.proofs.lemmas.List.Sums.{sum_by-cons}
 use Rattle.std.proofs.lemmas.Bool.{cases_eq}
 use Rattle.words.proofs.Saying.{none_some}
-use Rattle.bytes.specs.BigEndian.{Bytes}
-use Rattle.bytes.specs.Values.{value_bytes, values}
+use Rattle.data_bytes.specs.BigEndian.{Bytes}
+use Rattle.data_bytes.specs.Values.{value_bytes, values}
 use Rattle.model.specs.Rules.{nth}
 use Rattle.model.proofs.Lists.{some_same, one}
 

@@ -8,8 +8,8 @@ use Rattle.std.proofs.ByRecursion.{all-has, all_has_itself, has_shuffled}
 use Rattle.std.proofs.lemmas.List.Sorted.{IsPermutation-sym, IsPermutation-trans}
 use Rattle.words.specs.Grammar.{StreamTable}
 use Rattle.words.proofs.Saying.{cons_nil}
-use Rattle.bytes.specs.Values.{value_bytes, values}
-use Rattle.bytes.proofs.ValueLists.{values_value_bytes}
+use Rattle.data_bytes.specs.Values.{value_bytes, values}
+use Rattle.data_bytes.proofs.ValueLists.{values_value_bytes}
 use Rattle.model.specs.Forest.{Ligature, LigatureSet, Subtable, Lookup}
 use Rattle.model.specs.Tables.{Slot, slot, slots_from, Table, zeros, head, lookup_table, extension_table, subtable_table, set_table, ligature_table}
 use Rattle.model.specs.Loading.{slots_of, Spelt}

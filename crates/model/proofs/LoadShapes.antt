@@ -10,7 +10,7 @@ use Rattle.std.proofs.ByRecursion.{has_shuffled}
 use Rattle.std.proofs.lemmas.Bool.{cases_eq, cases_Bool, cond_both, leb-true, leb-false, cases_lt, both_ways}
 use Rattle.words.specs.Grammar.{StreamTable, Stream}
 use Rattle.words.proofs.Saying.{cons_nil}
-use Rattle.bytes.specs.Values.{value_bytes}
+use Rattle.data_bytes.specs.Values.{value_bytes}
 use Rattle.model.specs.Forest.{Ligature, LigatureSet, Subtable, Lookup}
 use Rattle.model.specs.Tables.{Slot, slot, slots_from, Table, zeros, head, extension_bytes, lookup_table, extension_table, subtable_table, set_table, ligature_table}
 use Rattle.model.specs.Reading.{has_mark}

@@ -8,8 +8,8 @@ use Rattle.refusals.specs.declared.Refusal.{Refusal}
 use Rattle.refusals.specs.declared.Refusal.TheVariants.{BadShape, BadCoverage, Empty, BadVirtual, TooManySubtables}
 use Rattle.words.specs.Grammar.{StreamTable, Stream}
 use Rattle.words.proofs.Saying.{none_some}
-use Rattle.bytes.specs.Values.{value_bytes, values}
-use Rattle.bytes.proofs.ValueLists.{values_value_bytes}
+use Rattle.data_bytes.specs.Values.{value_bytes, values}
+use Rattle.data_bytes.proofs.ValueLists.{values_value_bytes}
 use Rattle.coverage.specs.Meaning.{Meant}
 use Rattle.model.specs.Forest.{Ligature, LigatureSet, Subtable, Lookup, Model}
 use Rattle.model.specs.Tables.{Table, Placed, zeros, head, head_or, lookup_table, extension_table, subtable_table, coverage_table, set_table, ligature_table, set_walk, extension_walk, subtable_walk, lookup_walk, model_walk}

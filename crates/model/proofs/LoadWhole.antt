@@ -9,7 +9,7 @@ use Rattle.std.proofs.lemmas.List.Sorted.{length_permutation}
 use Rattle.std.proofs.lemmas.Bool.{cases_eq, cases_lt}
 use Rattle.words.specs.Grammar.{StreamLink, real, virtual, StreamTable, Stream}
 use Rattle.words.specs.Reading.{links_in, bytes_in}
-use Rattle.bytes.proofs.ValueLists.{length-value_bytes}
+use Rattle.data_bytes.proofs.ValueLists.{length-value_bytes}
 use Rattle.coverage.specs.Meaning.{Meant}
 use Rattle.model.specs.Forest.{Lookup, Taken, Model}
 use Rattle.model.specs.Tables.{Slot, Table, Placed, model_walk, vertex_of, count_of, targets, links_of}

@@ -3,7 +3,7 @@ use Rattle.std.proofs.Common.{◌≡◌, ℕ, zero, suc, ◌+◌, ◌*◌, List,
 use Rattle.std.specs.Option.{option_to_list}
 use Rattle.std.specs.List.{flat_map}
 use Rattle.std.proofs.lemmas.List.{length-map}
-use Rattle.bytes.proofs.ValueLists.{length-value_bytes}
+use Rattle.data_bytes.proofs.ValueLists.{length-value_bytes}
 use Rattle.model.specs.Forest.{Ligature, LigatureSet, Subtable, Lookup}
 use Rattle.model.specs.Tables.{Slot, Placed, slots_from, head, zeros, lookup_table, extension_table, subtable_table, coverage_table, set_table, ligature_table, set_walk, extension_walk, subtable_walk, lookup_walk, vertex_of, count_of, links_of}
 use Rattle.model.specs.Rules.{nth}

@@ -3,7 +3,7 @@ use Rattle.std.proofs.Common.{◌≡◌, ℕ, suc, ◌+◌, ◌*◌, List, [], �
 use lib.ListN.{length-replicate}
 use Rattle.std.specs.List.{flat_map}
 use Rattle.std.proofs.lemmas.List.Sums.{sum_by-append, sum_by-cons}
-use Rattle.bytes.proofs.ValueLists.{length-value_bytes}
+use Rattle.data_bytes.proofs.ValueLists.{length-value_bytes}
 use Rattle.model.specs.Forest.{Ligature, LigatureSet, Subtable}
 use Rattle.model.specs.Tables.{zeros, ligature_table, set_table, subtable_table, set_walk}
 use Rattle.model.specs.Cutting.{entries_from, sets_from, table_length, entry_size, touched, run_size, subtable_size}

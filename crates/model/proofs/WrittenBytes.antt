@@ -5,9 +5,9 @@ use Rattle.std.specs.Option.{option_to_list}
 use Rattle.std.proofs.ByRecursion.{All-append, All-map, All-weaker, All-get_or, All-from_get_or}
 use Rattle.std.proofs.lemmas.List.{length-map}
 use Rattle.std.proofs.lemmas.Bool.{eqb-true}
-use Rattle.bytes.specs.BigEndian.{Bytes, spelled}
-use Rattle.bytes.specs.Values.{value_bytes}
-use Rattle.bytes.proofs.Spellings.{bytes_spelled}
+use Rattle.data_bytes.specs.BigEndian.{Bytes, spelled}
+use Rattle.data_bytes.specs.Values.{value_bytes}
+use Rattle.data_bytes.proofs.Spellings.{bytes_spelled}
 use Rattle.coverage.specs.Meaning.{Meant}
 use Rattle.coverage.proofs.Lists.{listed}
 use Rattle.model.specs.Forest.{Ligature, LigatureSet, Subtable, Lookup}

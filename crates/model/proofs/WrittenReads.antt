@@ -5,8 +5,8 @@ use Rattle.std.specs.Option.{option_to_list}
 use Rattle.std.proofs.ByRecursion.{All-get_or}
 use Rattle.std.proofs.lemmas.List.{append-nil, length-map, get_or-map, get_or-append-add, get_or_append_left, take_all}
 use Rattle.std.proofs.lemmas.Bool.{both_ways, and_from, or_left, or_right, cond-true, le-leb, lt-ltb, eq-eqb}
-use Rattle.bytes.specs.BigEndian.{word16, number_at}
-use Rattle.bytes.specs.Values.{value_bytes, values_at}
+use Rattle.data_bytes.specs.BigEndian.{word16, number_at}
+use Rattle.data_bytes.specs.Values.{value_bytes, values_at}
 use Rattle.coverage.specs.Meaning.{Meant}
 use Rattle.model.specs.Forest.{Ligature, LigatureSet, Subtable, Lookup}
 use Rattle.model.specs.Tables.{head, head_or, lookup_table, extension_table, set_table, ligature_table, extension_walk}

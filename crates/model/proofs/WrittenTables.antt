@@ -4,8 +4,8 @@ use Rattle.std.specs.List.{AllByRecursion as All}
 use Rattle.std.specs.Option.{option_to_list}
 use Rattle.std.proofs.lemmas.List.{append-nil, length-map}
 use Rattle.std.proofs.lemmas.Bool.{or_from, or_parts, le-ltb, ltb-false}
-use Rattle.bytes.specs.BigEndian.{spelled}
-use Rattle.bytes.specs.Values.{value_bytes}
+use Rattle.data_bytes.specs.BigEndian.{spelled}
+use Rattle.data_bytes.specs.Values.{value_bytes}
 use Rattle.model.specs.Forest.{Ligature, LigatureSet, Subtable, Lookup}
 use Rattle.model.specs.Tables.{Placed, slots_from, head, zeros, extension_bytes, lookup_table, extension_table, subtable_table, set_table}
 use Rattle.model.specs.Writing.{Start, fill_slots, filled, too_far, any_too_far}

@@ -3,7 +3,7 @@ use Rattle.std.specs.Prelude.{◌≡◌, ℕ, zero, suc, ◌+◌, ◌<◌, ◌�
 use Rattle.std.specs.List.{AllByRecursion as All}
 use Rattle.refusals.specs.declared.Refusal.{Refusal}
 use Rattle.refusals.specs.declared.Refusal.TheVariants.{NoLookup, NoRule, OffsetOverflow}
-use Rattle.bytes.specs.BigEndian.{Bytes}
+use Rattle.data_bytes.specs.BigEndian.{Bytes}
 use Rattle.coverage.specs.Meaning.{Meant}
 use Rattle.model.specs.Forest.{Subtable, Lookup, Model}
 use Rattle.model.specs.Rules.{Rule, Sourced, Shaped, rules_of, shape_by, shape, rule, nth}

@@ -9,7 +9,7 @@ use Rattle.words.specs.declared.Width.{Width}
 use Rattle.words.specs.declared.Width.TheVariants.{Two, Four}
 use Rattle.words.specs.Grammar.{StreamLink, real, virtual, StreamTable, Stream, Spells, Misfit}
 use Rattle.words.specs.Reading.{links_in, bytes_in}
-use Rattle.bytes.specs.Values.{value_bytes, values}
+use Rattle.data_bytes.specs.Values.{value_bytes, values}
 use Rattle.coverage.specs.Meaning.{Meant}
 use Rattle.model.specs.Forest.{Ligature, LigatureSet, Subtable, Lookup, Taken, Model}
 use Rattle.model.specs.Tables.{Slot, slot, Table, Placed, head, lookup_table, extension_table, subtable_table, set_table, ligature_table, model_walk, count_of}

@@ -2,8 +2,8 @@
 use Rattle.std.specs.Prelude.{◌≡◌, ℕ, zero, suc, ◌+◌, ◌-◌, ◌*◌, ◌/◌, ◌%◌, ◌<◌, ◌≤◌, Bool, true, false, cond, ◌&&◌, ◌||◌, List, [], ◌∷◌, ◌++◌, length, drop, Some, None, Ok, Err, Option, Result, ◌==◌, nat_le, nat_lt, slice_index}
 use Rattle.refusals.specs.declared.Refusal.{Refusal}
 use Rattle.refusals.specs.declared.Refusal.TheVariants.{NoPlace, Unreadable}
-use Rattle.bytes.specs.BigEndian.{word16, number_at}
-use Rattle.bytes.specs.Values.{values_at}
+use Rattle.data_bytes.specs.BigEndian.{word16, number_at}
+use Rattle.data_bytes.specs.Values.{values_at}
 use Rattle.coverage.specs.Meaning.{Meant}
 use Rattle.model.specs.Rules.{Rule, Shaped, first_rule}
 

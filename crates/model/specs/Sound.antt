@@ -1,7 +1,7 @@
 -- Well-formed models, under a codec's meaning: what load shows of a graph, and what every call keeps.
 use Rattle.std.specs.Prelude.{◌≡◌, ℕ, suc, ◌+◌, ◌*◌, ◌%◌, ◌<◌, ◌≤◌, Bool, true, false, cond, List, [], ◌∷◌, ◌++◌, map, length, take, is_some, IfSome, Some, None, sum_by, Option, ◌==◌}
 use Rattle.std.specs.List.{AllByRecursion as All}
-use Rattle.bytes.specs.BigEndian.{Bytes}
+use Rattle.data_bytes.specs.BigEndian.{Bytes}
 use Rattle.coverage.specs.Glyphs.{GlyphList}
 use Rattle.coverage.specs.Meaning.{Meant}
 use Rattle.model.specs.Forest.{Ligature, LigatureSet, Subtable, Lookup, Model}

@@ -2,7 +2,7 @@
 use Rattle.std.specs.Prelude.{◌≡◌, ℕ, suc, ◌+◌, ◌*◌, ◌<◌, Bool, true, false, cond, List, [], ◌∷◌, ◌++◌, map, length, replicate, Some, None, Option, ◌==◌}
 use Rattle.std.specs.List.{flat_map}
 use Rattle.std.specs.Option.{option_to_list}
-use Rattle.bytes.specs.Values.{value_bytes}
+use Rattle.data_bytes.specs.Values.{value_bytes}
 use Rattle.model.specs.Forest.{Ligature, LigatureSet, Subtable, Lookup, Model}
 
 -- a slot: the place of an offset in a table, its width in bytes, and the vertex that it leads to

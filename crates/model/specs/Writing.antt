@@ -3,7 +3,7 @@ use Rattle.std.specs.Prelude.{◌≡◌, ℕ, zero, suc, ◌+◌, ◌-◌, ◌*�
 use Rattle.std.specs.List.{flat_map}
 use Rattle.refusals.specs.declared.Refusal.{Refusal}
 use Rattle.refusals.specs.declared.Refusal.TheVariants.{NoLookup, OffsetOverflow, ShortBuffer}
-use Rattle.bytes.specs.BigEndian.{put_at}
+use Rattle.data_bytes.specs.BigEndian.{put_at}
 use Rattle.model.specs.Forest.{Ligature, LigatureSet, Subtable, Lookup, Model}
 use Rattle.model.specs.Tables.{Slot, Table, Placed, lookup_table, extension_walk, subtable_table, coverage_table, set_table, ligature_table}
 use Rattle.model.specs.Rules.{nth}

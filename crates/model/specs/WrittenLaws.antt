@@ -2,7 +2,7 @@
 use Rattle.std.specs.Prelude.{◌≡◌, ℕ, ◌<◌, ◌≤◌, false, cond, List, [], ◌∷◌, map, length, Some, Ok, Err, Option, ◌≢◌, nat_le}
 use Rattle.std.specs.List.{AllByRecursion as All}
 use Rattle.refusals.specs.declared.Refusal.TheVariants.{ShortBuffer, Unreadable}
-use Rattle.bytes.specs.BigEndian.{Bytes}
+use Rattle.data_bytes.specs.BigEndian.{Bytes}
 use Rattle.coverage.specs.Meaning.{Meant}
 use Rattle.coverage_list.specs.Format1.{array_meaning}
 use Rattle.model.specs.Forest.{Subtable, Lookup, Model}

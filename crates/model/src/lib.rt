@@ -1,4 +1,6 @@
 // Theorems about the model of a graph, each on the contract of a function that does nothing.
+#![tactic(auto)]
+
 pub mod cutting;
 pub mod keeping;
 pub mod law;

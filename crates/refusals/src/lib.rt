@@ -1,4 +1,6 @@
 // What the library answers when it does not do what it is asked: refusals of calls, and faults of coverage codecs.
+#![tactic(auto)]
+
 ghost use Rattle.std.specs.Prelude.{◌≡◌};
 ghost use Rattle.refusals.specs.Numbers.{refusal_number, refusal_value, fault_number, pool_number, NumbersTell};
 

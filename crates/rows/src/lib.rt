@@ -1,4 +1,6 @@
 // Keyed rows: many lists in one slice, all in rising order of their keys. Find, put and remove for any row that tells its key.
+#![tactic(auto)]
+
 ghost use Rattle.std.specs.Prelude.{◌≡◌, ◌+◌, ◌-◌, ◌<◌, ◌≤◌, false, ◌∷◌, ◌++◌, length, take, drop, replicate, IfOk, Some, None, MatchResult};
 ghost use Rattle.std.specs.List.{HoldsAt, insert, remove};
 ghost use Rattle.rows.specs.declared.RowKey.{RowKey};

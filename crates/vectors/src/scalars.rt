@@ -1,6 +1,6 @@
 // Numbers in bytes, plainly and through a view, up to the ends of the bytes and of the places that can be asked for.
 use crate::laid::is_laid;
-use bytes::{DataBytes, Scalar};
+use data_bytes::{DataBytes, Scalar};
 
 // What all the bytes are before each case.
 const START: [u8; 8] = [0xa0, 0xa1, 0xa2, 0xa3, 0xa4, 0xa5, 0xa6, 0xa7];

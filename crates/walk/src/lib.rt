@@ -1,4 +1,6 @@
 // The walk.
+#![tactic(auto)]
+
 pub fn nothing() -> u8 {
     0
 }

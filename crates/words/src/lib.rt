@@ -1,4 +1,6 @@
 // The words of a graph stream: the table of kinds, and the machine that reads a stream word by word.
+#![tactic(auto)]
+
 ghost use Rattle.std.specs.Prelude.{◌≡◌};
 ghost use Rattle.words.specs.Words.{row_of, token_of, value_of};
 ghost use Rattle.words.specs.Reading.{next_place, Countable, counted, stepped, scanned};

@@ -1,5 +1,5 @@
 use Rattle.std.proofs.Common.{◌≡◌, ◌&&◌, drop}
-use Rattle.bytes.specs.Values.{values_at}
+use Rattle.data_bytes.specs.Values.{values_at}
 use Rattle.coverage.specs.Glyphs.{above, rises, small}
 use Rattle.coverage_list.proofs.array_rises.Given as goal
 

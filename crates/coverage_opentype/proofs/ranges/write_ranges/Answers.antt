@@ -1,6 +1,6 @@
 use Rattle.std.proofs.Common.{◌≡◌, ℕ, ◌+◌, ◌-◌, ◌<◌, ◌≤◌, List, length, get_or, sym, refl, ap, ◌∙◌, arith, rules}
-use Rattle.bytes.specs.BigEndian.{put16}
-use Rattle.bytes.proofs.ValueLists.{laid}
+use Rattle.data_bytes.specs.BigEndian.{put16}
+use Rattle.data_bytes.proofs.ValueLists.{laid}
 use Rattle.coverage_opentype.specs.Format2.{runs, range_span}
 use Rattle.coverage.proofs.Lists.{listed, rises_places}
 use Rattle.coverage_opentype.specs.Unbroken.{run, runs_few}

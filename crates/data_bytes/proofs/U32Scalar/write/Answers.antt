@@ -1,7 +1,7 @@
 -- The two words that are put spell the scalar in four bytes.
 use Rattle.std.proofs.Common.{sym, arith}
-use Rattle.bytes.proofs.Places.{words_written}
-use Rattle.bytes.proofs.U32Scalar.write.Goals as goal
+use Rattle.data_bytes.proofs.Places.{words_written}
+use Rattle.data_bytes.proofs.U32Scalar.write.Goals as goal
 
 pub returns : goal.returns
 returns c =

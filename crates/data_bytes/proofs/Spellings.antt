@@ -4,7 +4,7 @@ use lib.Arith.{digits_div, digits_mod, digits_lt}
 use Rattle.std.proofs.lemmas.Int.Digits.{number_push}
 use Rattle.std.proofs.lemmas.List.{length_push, length-take-le, take_more, take_all, get_or-take, get_or_append_left, get_or_push}
 use Rattle.std.proofs.lemmas.Bool.{cases_lt}
-use Rattle.bytes.specs.BigEndian.{Bytes, big_endian, spelled}
+use Rattle.data_bytes.specs.BigEndian.{Bytes, big_endian, spelled}
 
 pub length_spelled : (w n : ℕ) → length (spelled w n) ≡ w
 length_spelled zero n = refl

@@ -1,7 +1,7 @@
 -- The word that is read is the number of its two bytes.
 use Rattle.std.proofs.Common.{sym}
-use Rattle.bytes.proofs.Places.{word_read}
-use Rattle.bytes.proofs.U16Scalar.read.Goals as goal
+use Rattle.data_bytes.proofs.Places.{word_read}
+use Rattle.data_bytes.proofs.U16Scalar.read.Goals as goal
 
 pub returns : goal.returns
 returns c = word_read c.args.bytes.now c.args.at c.word-at.result (sym c.if-not-has-bytes.ensures) c.word-at.ensures

@@ -1,7 +1,7 @@
 -- The word that is put spells the scalar in its two bytes.
 use Rattle.std.proofs.Common.{sym, arith}
-use Rattle.bytes.proofs.Places.{word_written}
-use Rattle.bytes.proofs.U16Scalar.write.Goals as goal
+use Rattle.data_bytes.proofs.Places.{word_written}
+use Rattle.data_bytes.proofs.U16Scalar.write.Goals as goal
 
 pub returns : goal.returns
 returns c =

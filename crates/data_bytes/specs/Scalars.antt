@@ -1,7 +1,7 @@
 -- What is read and written of scalars of any width, and the laws of it.
 use Rattle.std.specs.Prelude.{◌≡◌, ℕ, ◌+◌, ◌^◌, ◌<◌, ◌≤◌, true, cond, ◌⊎◌, List, length, Some, None, Option}
-use Rattle.bytes.specs.BigEndian.{Bytes, within, number_at, written_at}
-use Rattle.bytes.specs.declared.DataBytes.{DataBytes}
+use Rattle.data_bytes.specs.BigEndian.{Bytes, within, number_at, written_at}
+use Rattle.data_bytes.specs.declared.DataBytes.{DataBytes}
 
 -- the scalar in the w bytes from i on, if all of them are there
 abbrev pub read_at_of : {X : Type 0} → (ℕ → X) → ℕ → List ℕ → ℕ → Option X

@@ -1,6 +1,6 @@
 -- The laws of reading, from those that every scalar keeps.
-use Rattle.bytes.proofs.Places.{reads_number, reads_back_lem}
-use Rattle.bytes.proofs.reads_back.Goals as goal
+use Rattle.data_bytes.proofs.Places.{reads_number, reads_back_lem}
+use Rattle.data_bytes.proofs.reads_back.Goals as goal
 
 pub returns : goal.returns
 returns g c =

@@ -1,7 +1,7 @@
 -- The laws of spelling.
 use Rattle.std.proofs.Common.{length, refl}
-use Rattle.bytes.proofs.Spellings.{length_spelled, bytes_spelled, number_spelled, spelled_again, number_under}
-use Rattle.bytes.proofs.spelling_stands.Goals as goal
+use Rattle.data_bytes.proofs.Spellings.{length_spelled, bytes_spelled, number_spelled, spelled_again, number_under}
+use Rattle.data_bytes.proofs.spelling_stands.Goals as goal
 
 pub returns : goal.returns
 returns c = record {

@@ -1,6 +1,6 @@
 -- What a write elsewhere leaves to be read.
-use Rattle.bytes.proofs.Places.{reads_apart_lem}
-use Rattle.bytes.proofs.reads_apart.Goals as goal
+use Rattle.data_bytes.proofs.Places.{reads_apart_lem}
+use Rattle.data_bytes.proofs.reads_apart.Goals as goal
 
 pub returns : goal.returns
 returns g c = reads_apart_lem g.T-as-Scalar.scalar g.T-as-Scalar.width g.U-as-Scalar.width

@@ -1,7 +1,9 @@
 // Big-endian numbers in byte slices, and the views through which tables are read and written.
+#![tactic(auto)]
+
 ghost use Rattle.std.specs.Prelude.{◌≡◌, ℕ, ◌+◌, ◌^◌, ◌<◌, List, length};
-ghost use Rattle.bytes.specs.BigEndian.{Bytes, word16, put16, big_endian, spelled, within, number_at, put_at, written_at};
-ghost use Rattle.bytes.specs.Scalars.{read_at_of, lent, SameSlice, ReadsNumber, ScalarReadsBack, Apart};
+ghost use Rattle.data_bytes.specs.BigEndian.{Bytes, word16, put16, big_endian, spelled, within, number_at, put_at, written_at};
+ghost use Rattle.data_bytes.specs.Scalars.{read_at_of, lent, SameSlice, ReadsNumber, ScalarReadsBack, Apart};
 ghost use Rattle.std.proofs.Common.{rules};
 
 /// The 16-bit number whose two bytes start at `at`. For this library's own loops, which have tested the place; `u16::read` tests it itself.

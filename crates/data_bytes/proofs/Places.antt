@@ -4,9 +4,9 @@ use Rattle.std.proofs.lemmas.Int.Digits.{number_more}
 use Rattle.std.proofs.lemmas.List.Edits.{sets-eq}
 use Rattle.std.proofs.lemmas.List.{append_assoc, length-append, length-take-le, length-drop, get_or-drop, take_at, drop_at, drop-drop, drop-take, take-take, take-append-le}
 use Rattle.std.proofs.lemmas.Bool.{leb-true, le-leb, lt-leb, cases_lt, cond-true, cond-false}
-use Rattle.bytes.specs.BigEndian.{Bytes, word16, put16, big_endian, spelled, within, number_at, put_at, written_at}
-use Rattle.bytes.specs.Scalars.{read_at_of, ReadsNumber, ScalarReadsBack, Apart}
-use Rattle.bytes.proofs.Spellings.{length_spelled, number_spelled, number_under, bytes_take}
+use Rattle.data_bytes.specs.BigEndian.{Bytes, word16, put16, big_endian, spelled, within, number_at, put_at, written_at}
+use Rattle.data_bytes.specs.Scalars.{read_at_of, ReadsNumber, ScalarReadsBack, Apart}
+use Rattle.data_bytes.proofs.Spellings.{length_spelled, number_spelled, number_under, bytes_take}
 
 -- one byte more
 pub number_at_more : (w : ℕ) (bs : List ℕ) (i : ℕ) → i + w < length bs → number_at (w + 1) bs i ≡ number_at w bs i * 256 + get_or bs (i + w) 0

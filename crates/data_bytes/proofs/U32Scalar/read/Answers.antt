@@ -1,7 +1,7 @@
 -- The two words that are read make the number of their four bytes.
 use Rattle.std.proofs.Common.{sym}
-use Rattle.bytes.proofs.Places.{words_read}
-use Rattle.bytes.proofs.U32Scalar.read.Goals as goal
+use Rattle.data_bytes.proofs.Places.{words_read}
+use Rattle.data_bytes.proofs.U32Scalar.read.Goals as goal
 
 pub returns : goal.returns
 returns c =
