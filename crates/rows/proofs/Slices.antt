@@ -4,7 +4,7 @@ use Rattle.std.specs.List.{HoldsAt, ContainsAt as Has, insert, remove}
 use lib.Seq.{paste}
 use Rattle.std.proofs.lemmas.List.{length-take, length-take-le, length-drop, length-append, length-set, take-append-drop, take_all, take-take, take_more, drop_all, drop_at, drop-drop, drop_more, drop-take, set_at, set-append_left, get_or-take}
 use Rattle.std.proofs.ByRecursion.{has_get_or}
-use Rattle.std.proofs.lemmas.List.Edits.{length_insert, length-remove}
+use Rattle.std.proofs.lemmas.List.Edits.{length-insert, length-remove}
 use Rattle.std.proofs.lemmas.Bool.{cases_lt}
 use Rattle.rows.specs.declared.RowKey.{RowKey}
 use Rattle.rows.specs.Rows.{Rising, row_of, with_row, without_row, Laid, Answered, OnePut, OneLess, place_of, Spot}
@@ -101,7 +101,7 @@ module _ {X : Type 0} (key : X → RowKey) (old : List X) (used n : ℕ) (is : n
     inserted_is sp = rw (place_is sp.0) (inserted_at_place key r (take n old) (subst (λ l. row_of key l (take n old) ≡ None) same_key sp.1)) ∙ ap (with_row key r) front
 
     one_more : i ≤ n → Spot key k (take n old) (Err i) → n + 1 ≡ length (with_row key r (take used old))
-    one_more le sp = let l = size in omega (arith, ap length (inserted_is sp), length_insert (take n old) i r (omega arith))
+    one_more le sp = let l = size in omega (arith, ap length (inserted_is sp), length-insert (take n old) i r (omega arith))
 
     pub put_new : i ≤ n → (Rising key (take n old) → Spot key k (take n old) (Err i)) → n < length old → (new : List X) → new ≡ insert (take n old) i r ++ drop (n + 1) old → Rising key (take used old) → Laid (with_row key r (take used old)) old new (Some (n + 1))
     put_new le spot lt new e up =
@@ -190,13 +190,13 @@ module _ {X : Type 0} (key : X → RowKey) (old : List X) (used n : ℕ) (is : n
       pub put-between-length : length new ≡ length old
       put-between-length =
           let l = size key old used n is in
-          let h = length_insert (take n old) i r (omega arith) in
+          let h = length-insert (take n old) i r (omega arith) in
           omega (arith, ap length e, length-append (insert (take n old) i r) (drop (n + 1) old), length-drop (n + 1) old)
 
       pub put-between-behind : drop (used + 1) new ≡ drop (used + 1) old
       put-between-behind =
           let l = size key old used n is in
-          let h = length_insert (take n old) i r (omega arith) in
+          let h = length-insert (take n old) i r (omega arith) in
           behind_one new put-between-length (ap (drop (n + 1)) e ∙ drop_at (insert (take n old) i r) (drop (n + 1) old) (n + 1) (omega arith))
 
     pub put_nowhere : n ≡ length old → OnePut key r used old old None

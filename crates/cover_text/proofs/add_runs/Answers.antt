@@ -4,7 +4,7 @@ use Rattle.cover_text.specs.Text.{runs_text, spaced_range}
 use Rattle.coverage_opentype.specs.Unbroken.{run}
 use Rattle.cover_text.proofs.Printing.{left_first, walk_on, walk_break, walk_end}
 use Rattle.cover_text.proofs.add_runs.Goals as goal
-use Rattle.cover_text.proofs.add_runs.Goals.{then-glyph-last+in-ok-add-range, else-glyph-last}
+use Rattle.cover_text.proofs.add_runs.Goals.{then-glyph-last+in_ok-add_range, else-glyph-last}
 
 pub loop-i-init : goal.loop-i-init
 loop-i-init c =
@@ -17,10 +17,10 @@ loop-i-preserved c =
     let i = c.loop-i.i in
     let whole = string_bytes c.args.text.now ++ runs_text gs in
     elim c.if-glyph-last.branch [
-      | then-glyph-last+in-ok-add-range w ↦ (
+      | then-glyph-last+in_ok-add_range w ↦ (
         simp (w.text-is, w.start-is)
             (walk_break (string_bytes c.loop-i.text) whole gs i c.loop-i.start c.loop-i.last c.loop-i.invariant.0
-            (string_bytes w.add-range.new.text) (get_or gs i 0) (omega arith) refl w.if-glyph-last.true w.in-ok-add-range.ensures),
+            (string_bytes w.add_range.new.text) (get_or gs i 0) (omega arith) refl w.if-glyph-last.true w.in_ok-add_range.ensures),
         omega arith,
       )
       | else-glyph-last w ↦ (
@@ -34,8 +34,8 @@ pub returns : goal.returns
 returns c =
     let gs = c.args.glyphs.now in
     let text = string_bytes c.loop-i.text in
-    let now = string_bytes c.add-range-2.new.text in
+    let now = string_bytes c.add_range-2.new.text in
     let whole = string_bytes c.args.text.now ++ runs_text gs in
-    IfOk-weaker c.add-range-2.result (λ _. now ≡ text ++ spaced_range (run c.loop-i.start c.loop-i.last 0)) (λ _. now ≡ whole)
+    IfOk-weaker c.add_range-2.result (λ _. now ≡ text ++ spaced_range (run c.loop-i.start c.loop-i.last 0)) (λ _. now ≡ whole)
     (λ _ n. walk_end text whole gs c.loop-i.i c.loop-i.start c.loop-i.last c.loop-i.invariant.0 now (omega arith) n)
-    c.add-range-2.ensures
+    c.add_range-2.ensures

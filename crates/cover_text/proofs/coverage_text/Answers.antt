@@ -6,14 +6,14 @@ use Rattle.cover_text.specs.Text.{fault_line_of, lines_of, coverage_text_of}
 use Rattle.cover_text.proofs.Calls.{meant}
 use Rattle.cover_text.proofs.coverage_text.Goals as goal
 
-pub returns-in-ok-glyphs : goal.returns-in-ok-glyphs
+pub returns-in_ok-glyphs : goal.returns-in_ok-glyphs
 unfolding coverage_text_of
-returns-in-ok-glyphs c =
+returns-in_ok-glyphs c =
     let bs = c.args.bytes.now in
     let gs = c.deref.result.now in
     let end = c.unwrap-end.result in
     let is = meant (open_type_meaning bs) c.in-Ok.count end c.in-Ok.ensures (sym c.unwrap-end.ensures ∙ c.end.ensures)
-    ∙ ap (λ z. Some (z, end)) (sym (c.deref.ensures.value ∙ c.in-ok-glyphs.ensures)) in
+    ∙ ap (λ z. Some (z, end)) (sym (c.deref.ensures.value ∙ c.in_ok-glyphs.ensures)) in
     IfOk-weaker c.lines.result (λ t. string_bytes t ≡ lines_of bs (Some (gs, end))) (λ t. string_bytes t ≡ coverage_text_of bs) (λ t e. e ∙ sym (ap (lines_of bs) is)) c.lines.ensures
 
 pub returns-in-Err : goal.returns-in-Err
@@ -21,6 +21,6 @@ unfolding coverage_text_of
 returns-in-Err c =
     let bs = c.args.bytes.now in
     let p = counted_fault (open_type_meaning bs) c.in-Err.fault c.in-Err.ensures in
-    IfOk-weaker c.fault-line.result (λ t. string_bytes t ≡ fault_line_of c.in-Err.fault) (λ t. string_bytes t ≡ coverage_text_of bs)
+    IfOk-weaker c.fault_line.result (λ t. string_bytes t ≡ fault_line_of c.in-Err.fault) (λ t. string_bytes t ≡ coverage_text_of bs)
     (λ t e. e ∙ ap fault_line_of p.0 ∙ sym (ap (lines_of bs) p.1))
-    c.fault-line.ensures
+    c.fault_line.ensures

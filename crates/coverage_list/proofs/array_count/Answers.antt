@@ -9,8 +9,8 @@ use Rattle.coverage_list.proofs.array_count.Goals as goal
 pub returns-then-bytes-lt4 : goal.returns-then-bytes-lt4
 returns-then-bytes-lt4 c = count_none c.args.bytes.now (λ a. let h = a.four in omega arith)
 
-pub returns-then-word-at-ne1 : goal.returns-then-word-at-ne1
-returns-then-word-at-ne1 c = count_none c.args.bytes.now (λ a. let h = a.one in omega arith)
+pub returns-then-word_at-ne1 : goal.returns-then-word_at-ne1
+returns-then-word_at-ne1 c = count_none c.args.bytes.now (λ a. let h = a.one in omega arith)
 
 pub returns-then-count-eq0 : goal.returns-then-count-eq0
 returns-then-count-eq0 c =
@@ -21,8 +21,8 @@ returns-then-count-eq0 c =
 pub returns-then-bytes-count : goal.returns-then-bytes-count
 returns-then-bytes-count c = count_none c.args.bytes.now (λ a. let h = a.fits in omega arith)
 
-pub returns-then-array-rises : goal.returns-then-array-rises
-returns-then-array-rises c = count_some c.args.bytes.now c.word-at-count.result (omega arith) (omega arith) c.word-at-count.ensures (omega arith) (omega arith) (omega arith) (sym c.if-array-rises.ensures)
+pub returns-then-array_rises : goal.returns-then-array_rises
+returns-then-array_rises c = count_some c.args.bytes.now c.word_at-count.result (omega arith) (omega arith) c.word_at-count.ensures (omega arith) (omega arith) (omega arith) (sym c.if-array_rises.ensures)
 
-pub returns-else-array-rises : goal.returns-else-array-rises
-returns-else-array-rises c = count_falls c.args.bytes.now c.word-at-count.result c.word-at-count.ensures (sym c.if-array-rises.ensures)
+pub returns-else-array_rises : goal.returns-else-array_rises
+returns-else-array_rises c = count_falls c.args.bytes.now c.word_at-count.result c.word_at-count.ensures (sym c.if-array_rises.ensures)

@@ -9,21 +9,21 @@ loop-i-init c =
     let bs = c.args.bytes.now in
     let l = length-values_at bs 4 c.args.count c.requires.1 in
     let g = get_d_values_at bs 4 c.args.count c.requires.1 0 (omega arith) in
-    walk_first (values_at bs 4 c.args.count) c.word-at-last.result (omega arith) (c.word-at-last.ensures ∙ sym g) (omega arith)
+    walk_first (values_at bs 4 c.args.count) c.word_at-last.result (omega arith) (c.word_at-last.ensures ∙ sym g) (omega arith)
 
 pub returns-then-glyph-last : goal.returns-then-glyph-last
 returns-then-glyph-last c =
     let bs = c.args.bytes.now in
     let l = length-values_at bs 4 c.args.count c.requires.1 in
     let g = get_d_values_at bs 4 c.args.count c.requires.1 c.loop-i.i (omega arith) in
-    sym (c.loop-i.invariant ∙ walk_stop (values_at bs 4 c.args.count) c.loop-i.i c.loop-i.last c.word-at-glyph.result (omega arith) (c.word-at-glyph.ensures ∙ sym g) (omega arith))
+    sym (c.loop-i.invariant ∙ walk_stop (values_at bs 4 c.args.count) c.loop-i.i c.loop-i.last c.word_at-glyph.result (omega arith) (c.word_at-glyph.ensures ∙ sym g) (omega arith))
 
 pub loop-i-preserved : goal.loop-i-preserved
 loop-i-preserved c =
     let bs = c.args.bytes.now in
     let l = length-values_at bs 4 c.args.count c.requires.1 in
     let g = get_d_values_at bs 4 c.args.count c.requires.1 c.loop-i.i (omega arith) in
-    c.loop-i.invariant ∙ walk_on (values_at bs 4 c.args.count) c.loop-i.i c.loop-i.last c.word-at-glyph.result (omega arith) (c.word-at-glyph.ensures ∙ sym g) (omega arith) (omega arith)
+    c.loop-i.invariant ∙ walk_on (values_at bs 4 c.args.count) c.loop-i.i c.loop-i.last c.word_at-glyph.result (omega arith) (c.word_at-glyph.ensures ∙ sym g) (omega arith) (omega arith)
 
 pub returns : goal.returns
 returns c =

@@ -3,4 +3,4 @@ use Rattle.data_bytes.proofs.Places.{reads_apart_lem}
 use Rattle.data_bytes.proofs.reads_apart.Goals as goal
 
 pub returns : goal.returns
-returns g c = reads_apart_lem g.T-as-Scalar.scalar g.T-as-Scalar.width g.U-as-Scalar.width
+returns g c = reads_apart_lem g.T.Scalar.scalar g.T.Scalar.width g.U.Scalar.width

@@ -4,7 +4,7 @@ use Rattle.data_bytes.proofs.reads_back.Goals as goal
 
 pub returns : goal.returns
 returns g c =
-    let s = g.T-as-Scalar in
+    let s = g.T.Scalar in
     let laws = g.met.T.Scalar in
     record {
       number = reads_number s.number s.scalar s.width laws.forth;

@@ -13,5 +13,5 @@ loop-row-preserved c =
     let i = c.loop-row.row-index in (
       before_more rows i,
       below_more _ _ c.loop-row.invariant.1
-          (subst (λ b. Fault (length vs) (vertex_at vs (row_at rows i).owner).size b (row_at rows i) → ⊥) c.loop-row.invariant.0 (not_from_Decides c.is-faulty.result c.is-faulty.ensures c.if-is-faulty.false)),
+          (subst (λ b. Fault (length vs) (vertex_at vs (row_at rows i).owner).size b (row_at rows i) → ⊥) c.loop-row.invariant.0 (not_from_Decides c.is_faulty.result c.is_faulty.ensures c.if-is_faulty.false)),
     )

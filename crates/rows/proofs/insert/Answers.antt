@@ -3,4 +3,4 @@ use Rattle.rows.proofs.Slices.{laid}
 use Rattle.rows.proofs.insert.Goals as goal
 
 pub returns : goal.returns
-returns g c = laid c.args.rows.now c.copy-within.new.self c.args.used c.args.at c.args.row c.requires.0 c.requires.1 c.copy-within.ensures.after
+returns g c = laid c.args.rows.now c.copy_within.new.self c.args.used c.args.at c.args.row c.requires.0 c.requires.1 c.copy_within.ensures.after

@@ -5,13 +5,13 @@ use Rattle.rows.proofs.remove.Goals as goal
 
 pub returns-in-Ok : goal.returns-in-Ok
 returns-in-Ok g c =
-    let made = remove_there g.T.Row.key c.args.rows.now c.args.used c.min-n.result c.min-n.ensures c.args.key g.T.Row.zero c.in-Ok.i c.in-Ok.ensures.within c.in-Ok.ensures.spot c.take-out.new.rows c.take-out.ensures in
+    let made = remove_there g.T.Row.key c.args.rows.now c.args.used c.min-n.result c.min-n.ensures c.args.key g.T.Row.zero c.in-Ok.i c.in-Ok.ensures.within c.in-Ok.ensures.spot c.take_out.new.rows c.take_out.ensures in
     record {
       rows = λ up. (made up).0;
       count = λ up. (made up).1;
-      one = one_less g.T.Row.key c.args.rows.now c.args.used c.min-n.result c.min-n.ensures c.args.key g.T.Row.zero c.in-Ok.i c.in-Ok.ensures.within c.take-out.new.rows c.take-out.ensures c.in-Ok.ensures.keyed;
-      length = one_less_length g.T.Row.key c.args.rows.now c.args.used c.min-n.result c.min-n.ensures c.args.key g.T.Row.zero c.in-Ok.i c.in-Ok.ensures.within c.take-out.new.rows c.take-out.ensures;
-      behind = one_less_behind g.T.Row.key c.args.rows.now c.args.used c.min-n.result c.min-n.ensures c.args.key g.T.Row.zero c.in-Ok.i c.in-Ok.ensures.within c.take-out.new.rows c.take-out.ensures;
+      one = one_less g.T.Row.key c.args.rows.now c.args.used c.min-n.result c.min-n.ensures c.args.key g.T.Row.zero c.in-Ok.i c.in-Ok.ensures.within c.take_out.new.rows c.take_out.ensures c.in-Ok.ensures.keyed;
+      length = one_less_length g.T.Row.key c.args.rows.now c.args.used c.min-n.result c.min-n.ensures c.args.key g.T.Row.zero c.in-Ok.i c.in-Ok.ensures.within c.take_out.new.rows c.take_out.ensures;
+      behind = one_less_behind g.T.Row.key c.args.rows.now c.args.used c.min-n.result c.min-n.ensures c.args.key g.T.Row.zero c.in-Ok.i c.in-Ok.ensures.within c.take_out.new.rows c.take_out.ensures;
     }
 
 pub returns-in-Err : goal.returns-in-Err

@@ -11,21 +11,21 @@ loop-index-init c = at_start c.args.words.now
 pub step-requires : goal.step-requires
 step-requires c = let f = c.loop-index.invariant in omega arith
 
-pub returns-in-err-reading : goal.returns-in-err-reading
-returns-in-err-reading c =
+pub returns-in_err-reading : goal.returns-in_err-reading
+returns-in_err-reading c =
     let ws = c.args.words.now in
-    let h = c.in-err-reading.ensures in
-    let p = err_from_is_err_and c.from-residual.result c.from-residual.ensures.1 in
-    let v = ok_or_none c.step.result (BadWord c.loop-index.index) c.in-err-reading.field-0.0 h.value h.ok-part in
-    let u = unfit ws c.loop-index.index c.loop-index.reading c.step.result c.loop-index-test.true c.loop-index.invariant c.step.ensures h.ok-part in
-    let a = answer ws c.from-residual.result (p.1 ∙ ap Err (p.2 ∙ v) ∙ u) in
+    let h = c.in_err-reading.ensures in
+    let p = err_from_is_err_and c.from_residual.result c.from_residual.ensures.1 in
+    let v = ok_or_none c.step.result (BadWord c.loop-index.index) c.in_err-reading.field-0.0 h.value h.ok_part in
+    let u = unfit ws c.loop-index.index c.loop-index.reading c.step.result c.loop-index-test.true c.loop-index.invariant c.step.ensures h.ok_part in
+    let a = answer ws c.from_residual.result (p.1 ∙ ap Err (p.2 ∙ v) ∙ u) in
     record { answers = a.answers; means = a.means }
 
 pub loop-index-preserved : goal.loop-index-preserved
 loop-index-preserved c =
-    let h = c.in-ok-reading.ensures in
-    again c.args.words.now c.loop-index.index c.loop-index.reading c.in-ok-reading.reading c.step.result
-    c.loop-index-test.true c.loop-index.invariant c.step.ensures h.ok-part
+    let h = c.in_ok-reading.ensures in
+    again c.args.words.now c.loop-index.index c.loop-index.reading c.in_ok-reading.reading c.step.result
+    c.loop-index-test.true c.loop-index.invariant c.step.ensures h.ok_part
 
 pub returns-in-Closed : goal.returns-in-Closed
 returns-in-Closed c =
@@ -33,8 +33,8 @@ returns-in-Closed c =
     let a = answer ws _ (ended ws c.loop-index.index c.loop-index.reading c.loop-index-test.false c.loop-index.invariant c.in-Closed.is) in
     record { answers = a.answers; means = a.means }
 
-pub returns-in-default : goal.returns-in-default
-returns-in-default c =
+pub returns-in_default : goal.returns-in_default
+returns-in_default c =
     let ws = c.args.words.now in
-    let a = answer ws _ (unended ws c.loop-index.index c.loop-index.reading c.loop-index-test.false c.loop-index.auto.index-end c.loop-index.invariant c.in-default.not-Closed) in
+    let a = answer ws _ (unended ws c.loop-index.index c.loop-index.reading c.loop-index-test.false c.loop-index.auto.index-end c.loop-index.invariant c.in_default.not-Closed) in
     record { answers = a.answers; means = a.means }

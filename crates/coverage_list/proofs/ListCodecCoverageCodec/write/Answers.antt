@@ -5,22 +5,22 @@ use Rattle.coverage_list.proofs.ListCodecCoverageCodec.write.Goals as goal
 
 pub returns-then-out-size : goal.returns-then-out-size
 returns-then-out-size c =
-    let g = c.in-ok-size.ensures.0 in
-    let e = c.in-ok-size.ensures.1 in
+    let g = c.in_ok-size.ensures.0 in
+    let e = c.in_ok-size.ensures.1 in
     record { meant = inr (g, omega arith, refl); fixed = wrote_no_space c.args.glyphs.now c.args.out.now g (omega arith) }
 
-pub write-array-requires : goal.write-array-requires
-write-array-requires c =
-    let g = c.in-ok-size.ensures.0 in
-    let e = c.in-ok-size.ensures.1 in
+pub write_array-requires : goal.write_array-requires
+write_array-requires c =
+    let g = c.in_ok-size.ensures.0 in
+    let e = c.in_ok-size.ensures.1 in
     let l = (listed c.args.glyphs.now g).few in
     (l, omega arith)
 
 pub returns : goal.returns
 returns c =
-    let g = c.in-ok-size.ensures.0 in
-    let e = c.in-ok-size.ensures.1 in
-    let w = c.write-array.ensures in
+    let g = c.in_ok-size.ensures.0 in
+    let e = c.in_ok-size.ensures.1 in
+    let w = c.write_array.ensures in
     record {
       meant = (g, omega arith, e, wrote_means c.args.glyphs.now c.args.out.now _ g w);
       fixed = wrote c.args.glyphs.now c.args.out.now _ _ g e (omega arith) w;

@@ -4,8 +4,8 @@ use Rattle.coverage_opentype.specs.Unbroken.{runs_few}
 use Rattle.coverage_opentype.specs.Choosing.{size_ranges, size_array}
 use Rattle.coverage_opentype.proofs.opentype.shorter_plan.Goals as goal
 
-pub overflow-mul-count : goal.overflow-mul-count
-overflow-mul-count c =
+pub overflow_mul-count : goal.overflow_mul-count
+overflow_mul-count c =
     let f = runs_few c.args.glyphs.now in
     let e = c.in-Some.ensures.1 in
     let l = (listed c.args.glyphs.now c.in-Some.ensures.0).few in

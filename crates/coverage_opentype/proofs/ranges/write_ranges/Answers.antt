@@ -8,8 +8,8 @@ use Rattle.coverage_opentype.specs.Rendering.{heading, begin, moved, more_to_wri
 use Rattle.coverage_opentype.proofs.ranges.write_ranges.Goals as goal
 use Rattle.coverage_opentype.proofs.ranges.write_ranges.Goals.{then-glyph-range-gt1, else-glyph-range-gt1}
 
-pub overflow-cast-ranges : goal.overflow-cast-ranges
-overflow-cast-ranges c =
+pub overflow_cast-ranges : goal.overflow_cast-ranges
+overflow_cast-ranges c =
     let f = runs_few c.args.glyphs.now in
     let l = (listed c.args.glyphs.now c.requires.list).few in
     let e = c.requires.ranges in
@@ -29,35 +29,35 @@ pub loop-i-init : goal.loop-i-init
 loop-i-init c =
     let gs = c.args.glyphs.now in
     let some = (listed gs c.requires.list).some in
-    written_none gs c.args.out.now c.put-word-2.new.bytes (get_or gs 0 0) some refl
-    (headed gs c.args.out.now c.put-word.new.bytes c.put-word-2.new.bytes c.args.ranges some c.requires.room c.requires.ranges c.put-word.ensures c.put-word-2.ensures)
+    written_none gs c.args.out.now c.put_word-2.new.bytes (get_or gs 0 0) some refl
+    (headed gs c.args.out.now c.put_word.new.bytes c.put_word-2.new.bytes c.args.ranges some c.requires.room c.requires.ranges c.put_word.ensures c.put_word-2.ensures)
 
-pub overflow-sub-glyph : goal.overflow-sub-glyph
-overflow-sub-glyph c =
+pub overflow_sub-glyph : goal.overflow_sub-glyph
+overflow_sub-glyph c =
     let gs = c.args.glyphs.now in
     let r = rises_places gs (listed gs c.requires.list).rise (c.loop-i.i - 1) c.loop-i.i (omega arith) (omega arith) in
     let e = c.loop-i.invariant.last in
     omega arith
 
-pub put-range-requires : goal.put-range-requires
-put-range-requires c =
+pub put_range-requires : goal.put_range-requires
+put_range-requires c =
     let m = more_to_write _ _ _ _ _ _ c.loop-i.invariant in
-    let a = c.put-word.auto.bytes in
-    let b = c.put-word-2.auto.bytes in
+    let a = c.put_word.auto.bytes in
+    let b = c.put_word-2.auto.bytes in
     let k = c.loop-i.auto.out in
     let room = c.requires.room in
     omega arith
 
-pub overflow-add-done : goal.overflow-add-done
-overflow-add-done c = let m = more_to_write _ _ _ _ _ _ c.loop-i.invariant in let e = c.requires.ranges in search rules
+pub overflow_add-done : goal.overflow_add-done
+overflow_add-done c = let m = more_to_write _ _ _ _ _ _ c.loop-i.invariant in let e = c.requires.ranges in search rules
 
-pub overflow-cast-range : goal.overflow-cast-range
-overflow-cast-range c = let l = (listed c.args.glyphs.now c.requires.list).few in search rules
+pub overflow_cast-range : goal.overflow_cast-range
+overflow_cast-range c = let l = (listed c.args.glyphs.now c.requires.list).few in search rules
 
 pub loop-i-preserved : goal.loop-i-preserved
 loop-i-preserved c =
     let gs = c.args.glyphs.now in
-    let old = c.put-word-2.new.bytes in
+    let old = c.put_word-2.new.bytes in
     let i = c.loop-i.i in
     let k = c.loop-i.done in
     let r = c.loop-i.range in
@@ -65,21 +65,21 @@ loop-i-preserved c =
     let last = c.loop-i.invariant.last in
     elim c.if-glyph-range-gt1.branch [
       | then-glyph-range-gt1 w ↦
-          let a = c.put-word.auto.bytes in
-          let b = c.put-word-2.auto.bytes in
+          let a = c.put_word.auto.bytes in
+          let b = c.put_word-2.auto.bytes in
           let room = c.requires.room in
           moved gs old (i + 1) _ (k + 1) _ (run (get_or gs i 0) (get_or gs i 0) i) _ _ (sym w.done-is) (sym w.range-is) (sym w.out-is)
-          (written_next gs old c.loop-i.out i k (get_or gs i 0) r (omega arith) refl c.loop-i.invariant w.put-range.new.out (omega arith) w.if-glyph-range-gt1.true w.put-range.ensures)
+          (written_next gs old c.loop-i.out i k (get_or gs i 0) r (omega arith) refl c.loop-i.invariant w.put_range.new.out (omega arith) w.if-glyph-range-gt1.true w.put_range.ensures)
       | else-glyph-range-gt1 w ↦
           moved gs old (i + 1) _ k _ (run r.start (get_or gs i 0) r.index) _ _ (sym w.done-is) (sym w.range-is) (sym w.out-is)
           (written_longer gs old c.loop-i.out i k (get_or gs i 0) r (omega arith) refl c.loop-i.invariant (omega arith) w.if-glyph-range-gt1.false)
     ]
 
-pub put-range-requires-2 : goal.put-range-requires-2
-put-range-requires-2 c =
+pub put_range-requires-2 : goal.put_range-requires-2
+put_range-requires-2 c =
     let m = more_to_write _ _ _ _ _ _ c.loop-i.invariant in
-    let a = c.put-word.auto.bytes in
-    let b = c.put-word-2.auto.bytes in
+    let a = c.put_word.auto.bytes in
+    let b = c.put_word-2.auto.bytes in
     let k = c.loop-i.auto.out in
     let room = c.requires.room in
     omega arith
@@ -88,6 +88,6 @@ pub returns : goal.returns
 returns c =
     let gs = c.args.glyphs.now in
     let some = (listed gs c.requires.list).some in
-    written_all gs c.args.out.now c.put-word-2.new.bytes c.loop-i.out _ c.loop-i.i c.loop-i.done c.loop-i.range c.requires.room (omega arith)
-    (headed gs c.args.out.now c.put-word.new.bytes c.put-word-2.new.bytes c.args.ranges some c.requires.room c.requires.ranges c.put-word.ensures c.put-word-2.ensures)
-    c.loop-i.invariant c.put-range-2.ensures
+    written_all gs c.args.out.now c.put_word-2.new.bytes c.loop-i.out _ c.loop-i.i c.loop-i.done c.loop-i.range c.requires.room (omega arith)
+    (headed gs c.args.out.now c.put_word.new.bytes c.put_word-2.new.bytes c.args.ranges some c.requires.room c.requires.ranges c.put_word.ensures c.put_word-2.ensures)
+    c.loop-i.invariant c.put_range-2.ensures

@@ -5,9 +5,9 @@ use Rattle.data_bytes.proofs.U16Scalar.write.Goals as goal
 
 pub returns : goal.returns
 returns c =
-    let there = c.if-not-has-bytes.ensures in
+    let there = c.if-not-has_bytes.ensures in
     record {
       done = there;
-      after = word_written c.args.bytes.now c.put-word.new.bytes c.args.at c.args.self (sym there) (omega arith) c.put-word.ensures;
+      after = word_written c.args.bytes.now c.put_word.new.bytes c.args.at c.args.self (sym there) (omega arith) c.put_word.ensures;
       fits = omega arith;
     }

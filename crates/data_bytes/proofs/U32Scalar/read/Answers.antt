@@ -5,5 +5,5 @@ use Rattle.data_bytes.proofs.U32Scalar.read.Goals as goal
 
 pub returns : goal.returns
 returns c =
-    words_read c.args.bytes.now c.args.at c.word-at-high.result c.word-at-low.result
-    (sym c.if-not-has-bytes.ensures) c.word-at-high.ensures c.word-at-low.ensures
+    words_read c.args.bytes.now c.args.at c.word_at-high.result c.word_at-low.result
+    (sym c.if-not-has_bytes.ensures) c.word_at-high.ensures c.word_at-low.ensures

@@ -7,4 +7,4 @@ use Rattle.graph.proofs.GraphView.word.Goals as goal
 pub returns : goal.returns
 returns c =
     let row = vertex_at c.args.self.now.vertices.now c.args.vertex in
-    c.word-at.ensures ∙ sym (stretch_word c.args.self.now.bytes.now row.start row.size c.args.at c.requires.there)
+    c.word_at.ensures ∙ sym (stretch_word c.args.self.now.bytes.now row.start row.size c.args.at c.requires.there)

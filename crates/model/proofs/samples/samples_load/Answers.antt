@@ -8,12 +8,12 @@ use Rattle.model.proofs.samples.samples_load.Goals as goal
 
 pub returns : goal.returns
 returns c =
-    let open-type = c.well-formed-models-load-open-type.ensures in
-    let list = c.well-formed-models-load-list.ensures in
+    let open_type = c.well_formed_models_load-open_type.ensures in
+    let list = c.well_formed_models_load-list.ensures in
     record {
-      open-type = (
-        open-type ample model_s good_s_open_type (omega arith) (record { vertices = omega arith; links = omega arith; bytes = omega arith }),
-        open-type ample (model_t open_type_bytes) good_t_open_type (omega arith) (record { vertices = omega arith; links = omega arith; bytes = omega arith }),
+      open_type = (
+        open_type ample model_s good_s_open_type (omega arith) (record { vertices = omega arith; links = omega arith; bytes = omega arith }),
+        open_type ample (model_t open_type_bytes) good_t_open_type (omega arith) (record { vertices = omega arith; links = omega arith; bytes = omega arith }),
       );
       list = (
         list ample model_s good_s_list (omega arith) (record { vertices = omega arith; links = omega arith; bytes = omega arith }),

@@ -21,4 +21,4 @@ unfolding run_size is_glyph_list_of is_array array_meaning
 list_line_lem = (λ ch e. never e, (λ ch e. never e, (λ ch e. (record { bytes = bytes_all (array_bytes (10 ∷ [])) (lit< tt, (lit< tt, (lit< tt, (lit< tt, (lit< tt, (lit< tt, tt)))))); long = refl; means = refl }, (record { bytes = bytes_all (array_bytes (10 ∷ [])) (lit< tt, (lit< tt, (lit< tt, (lit< tt, (lit< tt, (lit< tt, tt)))))); long = refl; means = refl }, (record { bytes = bytes_all (array_bytes (20 ∷ [])) (lit< tt, (lit< tt, (lit< tt, (lit< tt, (lit< tt, (lit< tt, tt)))))); long = refl; means = refl }, tt))), (tt, (tt, (tt, (tt, (tt, (tt, tt)))))))))
 
 pub returns : goal.returns
-returns c = record { open-type = (good_s_open_type, good_t_open_type); list = (good_s_list, good_t_list); open_type_line_lem = open_type_line_lem; list_line_lem = list_line_lem }
+returns c = record { open_type = (good_s_open_type, good_t_open_type); list = (good_s_list, good_t_list); open_type_line_lem = open_type_line_lem; list_line_lem = list_line_lem }

@@ -43,4 +43,4 @@ by_list =
     }
 
 pub returns : goal.returns
-returns c = record { open-type = by_open_type; list = by_list }
+returns c = record { open_type = by_open_type; list = by_list }

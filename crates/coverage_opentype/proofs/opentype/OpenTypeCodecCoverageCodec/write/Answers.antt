@@ -9,14 +9,14 @@ use Rattle.coverage_opentype.proofs.opentype.OpenTypeCodecCoverageCodec.write.Go
 pub returns-then-out-plan : goal.returns-then-out-plan
 returns-then-out-plan c =
     let gs = c.args.glyphs.now in
-    let p = c.in-ok-plan.ensures in
+    let p = c.in_ok-plan.ensures in
     let s = p.1 in
     record { meant = inr (p.0, omega arith, refl); fixed = wrote_no_space gs c.args.out.now _ p.0 s (omega arith) }
 
-pub write-array-requires : goal.write-array-requires
-write-array-requires c =
+pub write_array-requires : goal.write_array-requires
+write_array-requires c =
     let gs = c.args.glyphs.now in
-    let p = c.in-ok-plan.ensures in
+    let p = c.in_ok-plan.ensures in
     let f = (listed gs p.0).few in
     let le = subst (Shorter gs) c.in-Array.is p.2 in
     let s = size_array gs (length (runs gs)) refl le in
@@ -27,10 +27,10 @@ pub returns-in-Ranges : goal.returns-in-Ranges
 returns-in-Ranges c =
     let gs = c.args.glyphs.now in
     let old = c.args.out.now in
-    let p = c.in-ok-plan.ensures in
+    let p = c.in_ok-plan.ensures in
     let h = subst (Shorter gs) c.in-Ranges.is p.2 in
     let s = p.1 in
-    let w = c.write-ranges.ensures in
+    let w = c.write_ranges.ensures in
     record {
       meant = (p.0, omega arith, s, wrote_ranges gs c.in-Ranges.count h.0 old _ p.0 h.1 w);
       fixed = wrote gs old _ _ p.0 s (omega arith) (fixed_ranges gs c.in-Ranges.count h.0 old _ h.1 w);
@@ -40,10 +40,10 @@ pub returns-in-Array : goal.returns-in-Array
 returns-in-Array c =
     let gs = c.args.glyphs.now in
     let old = c.args.out.now in
-    let p = c.in-ok-plan.ensures in
+    let p = c.in_ok-plan.ensures in
     let le = subst (Shorter gs) c.in-Array.is p.2 in
     let s = p.1 in
-    let w = c.write-array.ensures in
+    let w = c.write_array.ensures in
     record {
       meant = (p.0, omega arith, s, wrote_array gs (length (runs gs)) refl old _ p.0 le w);
       fixed = wrote gs old _ _ p.0 s (omega arith) (fixed_array gs (length (runs gs)) refl old _ le w);
