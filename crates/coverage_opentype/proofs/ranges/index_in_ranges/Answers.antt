@@ -16,8 +16,8 @@ range_at-range-requires c = let l = length-ranges_at c.args.bytes.now c.args.ran
 pub overflow_add-low : goal.overflow_add-low
 overflow_add-low c = let l = length-ranges_at c.args.bytes.now c.args.ranges in let w = c.loop-low.invariant.within in search rules
 
-pub loop-low-preserved-then-range_glyph : goal.loop-low-preserved-then-range_glyph
-loop-low-preserved-then-range_glyph c =
+pub loop-low-preserved-then-range-glyph : goal.loop-low-preserved-then-range-glyph
+loop-low-preserved-then-range-glyph c =
     let bs = c.args.bytes.now in
     let mid = c.loop-low.low + (c.loop-low.high - c.loop-low.low) / 2 in
     let l = length-ranges_at bs c.args.ranges in

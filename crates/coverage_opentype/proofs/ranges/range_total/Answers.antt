@@ -2,7 +2,7 @@ use Rattle.std.proofs.Common.{sym, ◌∙◌, inl, inr, arith}
 use Rattle.coverage_opentype.specs.Format2.{range_at_of, ranges_at}
 use Rattle.coverage_opentype.specs.Covering.{length-ranges_at, get_d_ranges_at, walked_none, walked_more, walked_stop, walked_all}
 use Rattle.coverage_opentype.proofs.ranges.range_total.Goals as goal
-use Rattle.coverage_opentype.proofs.ranges.range_total.Goals.{then-start-low-via-then-start-low, then-start-low-via-else-start-low+then-end-start, then-start-low-via-else-start-low+else-end-start+then-range_total}
+use Rattle.coverage_opentype.proofs.ranges.range_total.Goals.{then-start-low-via-then-start-low, then-start-low-via-else-start-low+then-end-start, then-start-low-via-else-start-low+else-end-start+then-range-total}
 
 pub loop-k-init : goal.loop-k-init
 loop-k-init c = walked_none (ranges_at c.args.bytes.now c.args.ranges)
@@ -19,7 +19,7 @@ returns-then-start-low c =
     (elim c.then-start-low.branch [
       | then-start-low-via-then-start-low w ↦ inl w.if-start-low.true
       | then-start-low-via-else-start-low+then-end-start w ↦ inr (inl w.if-end-start.true)
-      | then-start-low-via-else-start-low+else-end-start+then-range_total w ↦ inr (inr w.if-range_total.true)
+      | then-start-low-via-else-start-low+else-end-start+then-range-total w ↦ inr (inr w.if-range-total.true)
     ])
 
 pub loop-k-preserved : goal.loop-k-preserved
