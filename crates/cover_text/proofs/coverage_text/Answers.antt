@@ -6,14 +6,14 @@ use Rattle.cover_text.specs.Text.{fault_line_of, lines_of, coverage_text_of}
 use Rattle.cover_text.proofs.Calls.{meant}
 use Rattle.cover_text.proofs.coverage_text.Goals as goal
 
-pub returns-in_ok-glyphs : goal.returns-in_ok-glyphs
+pub returns-in_ok-glyphs-in-Ok : goal.returns-in_ok-glyphs-in-Ok
 unfolding coverage_text_of
-returns-in_ok-glyphs c =
+returns-in_ok-glyphs-in-Ok c =
     let bs = c.args.bytes.now in
     let gs = c.deref.result.now in
     let end = c.unwrap-end.result in
     let is = meant (open_type_meaning bs) c.in-Ok.count end c.in-Ok.ensures (sym c.unwrap-end.ensures ∙ c.end.ensures)
-    ∙ ap (λ z. Some (z, end)) (sym (c.deref.ensures.value ∙ c.in_ok-glyphs.ensures)) in
+    ∙ ap (λ z. Some (z, end)) (sym (c.deref.ensures.value ∙ c.in_ok-glyphs-in-Ok.ensures)) in
     IfOk-weaker c.lines.result (λ t. string_bytes t ≡ lines_of bs (Some (gs, end))) (λ t. string_bytes t ≡ coverage_text_of bs) (λ t e. e ∙ sym (ap (lines_of bs) is)) c.lines.ensures
 
 pub returns-in-Err : goal.returns-in-Err
