@@ -1,9 +1,9 @@
 -- What the codecs' calls answer on slices of just the size that was told.
-use Rattle.std.proofs.Common.{◌≡◌, ℕ, ◌+◌, ◌<◌, ◌≤◌, true, false, cond, ◌&&◌, eqb, leb, ◌⊎◌, List, [], ◌∷◌, ◌++◌, length, take, drop, is_ok, Some, None, Ok, Err, Option, Result, sym, refl, ap, ◌∙◌, inl, inr, ⊎_elim, arith}
+use Rattle.std.proofs.Common.{◌≡◌, ℕ, ◌≤◌, true, cond, ◌&&◌, eqb, leb, ◌⊎◌, List, ◌++◌, length, take, drop, is_ok, Some, None, Ok, Err, Option, Result, sym, ap, ◌∙◌, inl, inr, ⊎_elim, arith}
 use Rattle.std.proofs.lemmas.List.{take_at, drop_all, append-nil}
 use Rattle.std.proofs.lemmas.Bool.{and_parts, cases_Bool, leb-true, eqb-true, le-leb, cond-true}
 use Rattle.refusals.specs.declared.CodecFault.{CodecFault}
-use Rattle.refusals.specs.declared.CodecFault.TheVariants.{NoMeaning, PastEnd, NotAdmitted, NoSpace}
+use Rattle.refusals.specs.declared.CodecFault.TheVariants.{NotAdmitted, NoSpace}
 use Rattle.data_bytes.specs.BigEndian.{word16}
 use Rattle.coverage.specs.Glyphs.{is_glyph_list_of, GlyphList}
 use Rattle.coverage.specs.Meaning.{Meant, glyphs_meant, counted, ended, copied, Sized, written_as}

@@ -1,10 +1,9 @@
 -- Text that grows part by part, and runs as they are printed.
-use Rattle.std.proofs.Common.{◌≡◌, ℕ, suc, ◌+◌, ◌-◌, ◌<◌, ◌≤◌, true, false, cond, ltb, List, [], ◌∷◌, ◌++◌, length, get_or, take, drop, is_ok, IfOk, Ok, Err, Result, sym, refl, ap, ◌∙◌, ⊎_elim, append_assoc, arith}
+use Rattle.std.proofs.Common.{◌≡◌, ℕ, suc, ◌+◌, ◌-◌, ◌<◌, ◌≤◌, cond, ltb, List, [], ◌∷◌, ◌++◌, length, get_or, take, drop, is_ok, IfOk, Ok, Err, Result, sym, refl, ap, ◌∙◌, ⊎_elim, append_assoc, arith}
 use Rattle.std.proofs.lemmas.List.{at_drop_more, at_drop_all, flat_map_more, take_more, take_all, append-nil}
 use Rattle.std.proofs.lemmas.Bool.{cases_eq, cases_lt, lt-ltb, le-ltb, cond-true, cond-false}
 use Rattle.std.specs.List.{flat_map}
-use Rattle.coverage_opentype.specs.declared.ranges.GlyphRange.{GlyphRange}
-use Rattle.coverage_opentype.specs.Format2.{runs_from, runs}
+use Rattle.coverage_opentype.specs.Format2.{runs_from}
 use Rattle.coverage_opentype.specs.Unbroken.{run, runs_on, runs_break}
 use Rattle.cover_text.specs.Text.{spaced_range, runs_text, hex_digit_of, hex_byte, hex_text, writes_line_of}
 

@@ -1,11 +1,11 @@
 -- What the answers of a codec tell of the meaning behind them.
-use Rattle.std.proofs.Common.{◌≡◌, ℕ, ◌+◌, ◌<◌, ◌≤◌, true, false, cond, ltb, leb, List, [], ◌∷◌, ◌++◌, length, get_or, take, drop, set, Some, None, Ok, Err, Option, Result, sym, refl, ap, ◌∙◌, ⊎_elim, append_assoc, arith}
+use Rattle.std.proofs.Common.{◌≡◌, ℕ, ◌+◌, ◌<◌, ◌≤◌, true, List, ◌++◌, length, get_or, take, drop, set, Some, None, Ok, Err, Option, sym, refl, ap, ◌∙◌, append_assoc, arith}
 use Rattle.std.proofs.lemmas.List.{take_more, take_all, drop_more, set_at, length-take-le}
-use Rattle.std.proofs.lemmas.Bool.{lt-ltb, le-ltb, le-leb, lt-leb, cond-true, cond-false, cases_lt}
+use Rattle.std.proofs.lemmas.Bool.{lt-ltb, le-ltb, le-leb, lt-leb, cond-true, cond-false}
 use Rattle.refusals.specs.declared.CodecFault.{CodecFault}
-use Rattle.refusals.specs.declared.CodecFault.TheVariants.{NoMeaning, PastEnd, NotAdmitted, NoSpace}
+use Rattle.refusals.specs.declared.CodecFault.TheVariants.{NoMeaning, PastEnd, NoSpace}
 use Rattle.coverage.specs.Glyphs.{GlyphList, rises, index_in}
-use Rattle.coverage.specs.Meaning.{Meant, glyphs_meant, counted, ended, glyph_at, indexed, copied}
+use Rattle.coverage.specs.Meaning.{Meant, glyphs_meant, counted, glyph_at, indexed, copied}
 use Rattle.coverage.proofs.Lists.{listed, index_at, Narrowed, narrowed_up, narrowed_down}
 
 -- bytes that mean something

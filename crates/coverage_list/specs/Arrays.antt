@@ -1,10 +1,9 @@
 -- What is known of format 1: the laws of a codec, the walk over an array, and what is written.
-use Rattle.std.specs.Prelude.{◌≡◌, ℕ, suc, ◌+◌, ◌-◌, ◌*◌, ◌/◌, ◌%◌, ◌<◌, ◌≤◌, Bool, true, false, cond, ◌&&◌, List, [], ◌∷◌, ◌++◌, length, take, drop, Some, None, Ok, Err, Option, Result, slice_index, refl}
-use Rattle.std.proofs.Common.{sym, ap, ◌∙◌, subst, inl, inr, append_assoc, arith, length-append}
+use Rattle.std.specs.Prelude.{◌≡◌, ℕ, ◌+◌, ◌*◌, ◌%◌, ◌<◌, ◌≤◌, Bool, true, false, cond, ◌&&◌, List, [], ◌∷◌, ◌++◌, length, take, drop, Some, None, Ok, Err, Option, slice_index, refl}
+use Rattle.std.proofs.Common.{sym, ap, ◌∙◌, inl, inr, arith, length-append}
 use Rattle.std.proofs.lemmas.List.{take_more, take_all, take_at, length-take-le}
 use Rattle.std.proofs.lemmas.Slice.{drop-append-drop}
 use Rattle.std.proofs.lemmas.Bool.{and_parts, and_from, leb-true, eqb-true, le-leb, lt-leb, eq-eqb, cases_Bool, cond-true, cond-false}
-use Rattle.refusals.specs.declared.CodecFault.{CodecFault}
 use Rattle.refusals.specs.declared.CodecFault.TheVariants.{NoMeaning, NoSpace}
 use Rattle.data_bytes.specs.BigEndian.{word16, put16}
 use Rattle.data_bytes.specs.Values.{value_bytes, values, values_at}

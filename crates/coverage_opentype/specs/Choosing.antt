@@ -1,7 +1,7 @@
 -- The OpenType codec: bytes mean something in one format at most, and the shorter format is written.
-use Rattle.std.specs.Prelude.{◌≡◌, ℕ, ◌+◌, ◌*◌, ◌%◌, ◌<◌, ◌≤◌, Bool, true, false, cond, ◌&&◌, ◌⊎◌, List, [], ◌∷◌, ◌++◌, length, take, drop, Some, None, Ok, Err, Option, ◌==◌, nat_le, refl}
-use Rattle.std.proofs.Common.{sym, ap, ◌∙◌, subst, inl, inr, ⊎_elim, arith}
-use Rattle.std.proofs.lemmas.Bool.{both_ways, and_parts, and_from, leb-true, eqb-true, le-leb, lt-leb, lt-ltb, le-ltb, eq-eqb, cases_lt, cond-true, cond-false}
+use Rattle.std.specs.Prelude.{◌≡◌, ℕ, ◌+◌, ◌*◌, ◌%◌, ◌<◌, ◌≤◌, true, false, ◌&&◌, ◌⊎◌, List, ◌++◌, length, take, drop, Some, None, Ok, Err, Option, ◌==◌, nat_le, refl}
+use Rattle.std.proofs.Common.{sym, ap, ◌∙◌, inl, inr, ⊎_elim, arith}
+use Rattle.std.proofs.lemmas.Bool.{both_ways, and_parts, and_from, eqb-true, le-leb, lt-leb, lt-ltb, le-ltb, eq-eqb, cases_lt, cond-true, cond-false}
 use Rattle.refusals.specs.declared.CodecFault.TheVariants.{NoSpace, NotAdmitted}
 use Rattle.data_bytes.specs.BigEndian.{word16}
 use Rattle.data_bytes.proofs.ValueLists.{laid}

@@ -1,15 +1,15 @@
 -- What is known of ranges in order: the glyphs that they cover, place by place, and what a table of them means.
-use Rattle.std.specs.Prelude.{◌≡◌, ℕ, zero, suc, ◌+◌, ◌-◌, ◌*◌, ◌%◌, ◌<◌, ◌≤◌, Bool, true, false, cond, ◌&&◌, ◌≢◌, ◌⊎◌, List, [], ◌∷◌, ◌++◌, map, length, get_or, take, drop, set, Some, None, Option, ◌==◌, nat_le, nat_lt, slice_index, slice_index_or, slice_set, refl}
+use Rattle.std.specs.Prelude.{◌≡◌, ℕ, zero, suc, ◌+◌, ◌-◌, ◌*◌, ◌%◌, ◌<◌, ◌≤◌, Bool, true, false, cond, ◌&&◌, ◌≢◌, ◌⊎◌, List, [], ◌∷◌, ◌++◌, length, get_or, take, drop, set, Some, None, ◌==◌, nat_le, nat_lt, slice_index, slice_index_or, slice_set, refl}
 use Rattle.std.proofs.Common.{sym, ap, ◌∙◌, subst, inl, inr, ⊎_elim, append_assoc, arith, add-zero, add-one, length-append}
 use Rattle.std.specs.List.{range_with_len}
 use Rattle.std.proofs.lemmas.List.FromFn.{length-range_with_len, get_or-range_with_len, length-map-range_with_len, get_or-map-range_with_len}
-use Rattle.std.proofs.lemmas.List.{append-nil, at_drop_more, at_drop_all, take_more, take_all, take-append-drop, drop_more, get_or_append_left, get_or-append-add, get_or-append_right, length-take-le, ext_get_or, take_at, set_at}
+use Rattle.std.proofs.lemmas.List.{append-nil, at_drop_all, take_more, take_all, take-append-drop, drop_more, get_or_append_left, get_or-append-add, get_or-append_right, length-take-le, ext_get_or, take_at, set_at}
 use Rattle.std.proofs.lemmas.Slice.{drop-append-drop}
-use Rattle.std.proofs.lemmas.Bool.{both_ways, and_parts, and_from, and_left, and_right, ltb-true, leb-true, eqb-true, lt-ltb, le-ltb, le-leb, lt-leb, eq-eqb, ne_eqb, cases_Bool, cases_lt, cases_eq, cond-true, cond-false}
+use Rattle.std.proofs.lemmas.Bool.{both_ways, and_parts, and_from, and_left, and_right, leb-true, eqb-true, lt-ltb, le-ltb, le-leb, lt-leb, eq-eqb, ne_eqb, cases_Bool, cases_lt, cases_eq, cond-true, cond-false}
 use Rattle.data_bytes.specs.BigEndian.{word16}
 use Rattle.data_bytes.proofs.ValueLists.{word16_front, length_front}
 use Rattle.coverage.specs.Glyphs.{above, rises, small, is_glyph_list_of, GlyphList, index_in}
-use Rattle.coverage.proofs.Lists.{Listed, listed, glyph_list, above_rises, index_at, index_none}
+use Rattle.coverage.proofs.Lists.{listed, glyph_list, index_at, index_none}
 use Rattle.coverage_opentype.specs.declared.ranges.GlyphRange.{GlyphRange}
 use Rattle.coverage_opentype.specs.Checked.{placed}
 use Rattle.coverage_opentype.specs.Format2.{covers, covered, forward, apart, numbered, in_order, range_at_of, ranges_at, range_end_of, is_ranges, range_meaning}

@@ -1,18 +1,17 @@
 -- Format 2 as it is written: range by range, and what the bytes then mean.
-use Rattle.std.specs.Prelude.{◌≡◌, ℕ, zero, suc, ◌+◌, ◌-◌, ◌*◌, ◌/◌, ◌%◌, ◌<◌, ◌≤◌, Bool, true, false, cond, ◌&&◌, List, [], ◌∷◌, ◌++◌, length, get_or, take, drop, Some, None, Option, slice_index, slice_index_or, refl}
+use Rattle.std.specs.Prelude.{◌≡◌, ℕ, zero, suc, ◌+◌, ◌-◌, ◌*◌, ◌<◌, ◌≤◌, List, [], ◌∷◌, ◌++◌, length, get_or, take, drop, Some, slice_index, slice_index_or, refl}
 use Rattle.std.proofs.Common.{sym, ap, ◌∙◌, subst, append_assoc, arith, length-append}
-use Rattle.std.proofs.lemmas.List.{take_more, take_all, drop_more, drop_all, length-take-le, ext_get_or, length-drop, drop-drop}
+use Rattle.std.proofs.lemmas.List.{take_more, take_all, drop_more, drop_all, length-take-le, ext_get_or, length-drop}
 use Rattle.std.proofs.lemmas.Slice.{drop-append-drop}
-use Rattle.std.proofs.lemmas.Bool.{and_parts}
 use Rattle.data_bytes.specs.BigEndian.{word16, put16}
 use Rattle.data_bytes.specs.Values.{value_bytes}
 use Rattle.data_bytes.proofs.ValueLists.{length-value_bytes, value_bytes-append, word16-value_bytes, laid, length_laid, lay_value}
-use Rattle.coverage.specs.Glyphs.{above, rises, is_glyph_list_of, GlyphList}
-use Rattle.coverage.proofs.Lists.{listed, above_rises, rises_places}
+use Rattle.coverage.specs.Glyphs.{is_glyph_list_of, GlyphList}
+use Rattle.coverage.proofs.Lists.{listed}
 use Rattle.coverage_opentype.specs.declared.ranges.GlyphRange.{GlyphRange}
-use Rattle.coverage_opentype.specs.Format2.{covers, covered, in_order, range_at_of, ranges_at, range_end_of, range_meaning, runs_from, runs, range_values, range_bytes, range_span}
+use Rattle.coverage_opentype.specs.Format2.{covered, in_order, range_at_of, ranges_at, range_end_of, range_meaning, runs_from, runs, range_values, range_bytes, range_span}
 use Rattle.coverage_opentype.specs.Covering.{in_order_lem, length-ranges_at, get_d_ranges_at, Table, table_meaning}
-use Rattle.coverage_opentype.specs.Unbroken.{run, runs_few, runs_begin, runs_longer, runs_next, length_runs, covered_of_runs, order_of_runs}
+use Rattle.coverage_opentype.specs.Unbroken.{run, runs_begin, runs_longer, runs_next, length_runs, covered_of_runs, order_of_runs}
 
 length-range_values : (rs : List GlyphRange) → length (range_values rs) ≡ 3 * length rs
 length-range_values [] = refl

@@ -1,13 +1,12 @@
 -- Unbroken runs: they are ranges in order that cover the list, with gaps between them, and the only such ranges; how they are counted and written.
-use Rattle.std.specs.Prelude.{◌≡◌, ℕ, zero, suc, ◌+◌, ◌-◌, ◌*◌, ◌/◌, ◌%◌, ◌<◌, ◌≤◌, Bool, true, false, cond, ◌&&◌, ◌⊎◌, List, [], ◌∷◌, ◌++◌, length, drop, ◌==◌, ◌≢◌, nat_le, nat_lt, slice_index, slice_index_or, refl}
-use Rattle.std.proofs.Common.{sym, ap, ◌∙◌, subst, inl, inr, ⊎_elim, append_assoc, arith, length-append}
+use Rattle.std.specs.Prelude.{◌≡◌, ℕ, zero, suc, ◌+◌, ◌-◌, ◌<◌, ◌≤◌, true, cond, List, [], ◌∷◌, ◌++◌, length, drop, ◌==◌, ◌≢◌, nat_le, nat_lt, slice_index, slice_index_or, refl}
+use Rattle.std.proofs.Common.{sym, ap, ◌∙◌, subst, ⊎_elim, append_assoc, arith}
 use Rattle.std.specs.List.{range_with_len}
 use Rattle.std.proofs.lemmas.List.{at_drop_more, at_drop_all}
 use Rattle.std.proofs.lemmas.Bool.{and_parts, and_from, ltb-true, leb-true, eqb-true, le-leb, eq-eqb, ne_eqb, cases_eq, cond-true, cond-false}
-use Rattle.coverage.specs.Glyphs.{above, rises, GlyphList}
-use Rattle.coverage.proofs.Lists.{listed}
+use Rattle.coverage.specs.Glyphs.{above, rises}
 use Rattle.coverage_opentype.specs.declared.ranges.GlyphRange.{GlyphRange}
-use Rattle.coverage_opentype.specs.Format2.{covers, covered, forward, apart, numbered, in_order, runs_from, runs, Gaps}
+use Rattle.coverage_opentype.specs.Format2.{covers, covered, forward, apart, numbered, runs_from, runs, Gaps}
 use Rattle.coverage_opentype.specs.Covering.{counting_push, Order, length-covers}
 
 abbrev pub run : ℕ → ℕ → ℕ → GlyphRange

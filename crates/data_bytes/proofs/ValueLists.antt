@@ -1,6 +1,6 @@
 -- 16-bit values and their bytes: reading what was value_bytes, and writing one value behind another.
 use Rattle.std.proofs.Common.{◌≡◌, ℕ, zero, suc, ◌+◌, ◌-◌, ◌*◌, ◌/◌, ◌%◌, ◌<◌, ◌≤◌, List, [], ◌∷◌, ◌++◌, length, get_or, take, drop, set, sym, refl, ap, ◌∙◌, append_assoc, arith, length-append, length-drop}
-use Rattle.std.proofs.lemmas.List.{length-take-le, get_or-take, get_or-drop, get_or_append_left, drop_more, drop-drop, set_at, take-append-le, drop-append-le, take-take, drop-take}
+use Rattle.std.proofs.lemmas.List.{length-take-le, get_or-take, get_or-drop, get_or_append_left, drop_more, set_at, take-append-le, drop-append-le, take-take, drop-take}
 use Rattle.data_bytes.specs.BigEndian.{word16, put16}
 use Rattle.data_bytes.specs.Values.{value_bytes, values, values_at}
 

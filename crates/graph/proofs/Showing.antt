@@ -1,17 +1,15 @@
 -- What memory holds, a reader of its used part is shown.
-use Rattle.std.proofs.Common.{◌≡◌, ℕ, zero, suc, ◌+◌, ◌-◌, ◌<◌, ◌≤◌, List, [], ◌∷◌, ◌++◌, map, length, get_or, take, drop, replicate, sym, refl, ap, ◌∙◌, subst, arith, length-append}
+use Rattle.std.proofs.Common.{◌≡◌, ◌<◌, ◌≤◌, List, [], ◌∷◌, length, take, ap, ◌∙◌, subst, arith, length-append}
 use Rattle.std.specs.List.{flat_map, AllByRecursion as All}
 use Rattle.std.proofs.lemmas.List.{length-take-le, get_or-take}
-use Rattle.std.proofs.ByRecursion.{All-weaker}
-use Rattle.rows.specs.Kinds.{zero_link}
 use Rattle.model.specs.Forest.{Lookup, Model}
-use Rattle.model.specs.Tables.{Placed, subtable_walk, lookup_walk, model_walk}
+use Rattle.model.specs.Tables.{Placed, lookup_walk, model_walk}
 use Rattle.model.specs.Loading.{table_in}
 use Rattle.model.proofs.LoadBack.{found}
 use Rattle.graph.specs.declared.Counts.{Counts}
 use Rattle.graph.specs.declared.VertexRow.{VertexRow}
-use Rattle.graph.specs.Memory.{zero_vertex, vertex_at, flat, Bears}
-use Rattle.graph.specs.Holding.{Lent, used_of, tables_of, root_at, vertex_row, padded, Holds, Shows}
+use Rattle.graph.specs.Memory.{zero_vertex, Bears}
+use Rattle.graph.specs.Holding.{Lent, used_of, Holds, Shows}
 
 -- a lookup has at least its own table
 lookups_few : (ls : List Lookup) → length ls ≤ length (flat_map lookup_walk ls)

@@ -1,5 +1,5 @@
 -- What load lays into memory for the tables of a stream: vertex rows, bytes, and link rows in order of position.
-use Rattle.std.specs.Prelude.{◌≡◌, ℕ, zero, suc, ◌+◌, ◌*◌, min, false, cond, List, [], ◌∷◌, ◌++◌, map, length, Ok, Err, Result, nat_le}
+use Rattle.std.specs.Prelude.{ℕ, suc, ◌+◌, ◌*◌, min, false, cond, List, [], ◌∷◌, ◌++◌, length, Ok, Err, Result, nat_le}
 use Rattle.std.specs.List.{flat_map}
 use Rattle.rows.specs.declared.LinkRow.{LinkRow}
 use Rattle.rows.specs.declared.LinkWidth.{LinkWidth}

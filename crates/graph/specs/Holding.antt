@@ -1,12 +1,12 @@
 -- What it is for lent memory to hold a model: every row and byte of it, used and spare.
-use Rattle.std.specs.Prelude.{◌≡◌, ℕ, zero, suc, ◌+◌, ◌-◌, ◌<◌, ◌≤◌, Bool, true, false, cond, ◌⊎◌, List, [], ◌∷◌, ◌++◌, map, length, take, drop, replicate, is_some, ◌==◌}
+use Rattle.std.specs.Prelude.{◌≡◌, ℕ, zero, suc, ◌+◌, ◌-◌, ◌<◌, ◌≤◌, true, false, cond, ◌⊎◌, List, [], ◌∷◌, ◌++◌, map, length, take, drop, replicate, is_some, ◌==◌}
 use Rattle.std.specs.List.{flat_map, AllByRecursion as All, range_with_len}
 use Rattle.rows.specs.declared.LinkRow.{LinkRow}
 use Rattle.rows.specs.declared.ParentRow.{ParentRow}
 use Rattle.rows.specs.Kinds.{zero_link, zero_parent}
 use Rattle.model.specs.Forest.{Subtable, Lookup, Model}
 use Rattle.model.specs.Tables.{Table, Placed, count_of, targets, vertex_of, model_walk}
-use Rattle.model.specs.Loading.{table_in, no_table}
+use Rattle.model.specs.Loading.{table_in}
 use Rattle.model.specs.Sound.{Distinct}
 use Rattle.model.specs.Splitting.{subtable_limit}
 use Rattle.model.specs.Splitting.{Capacities as Room}

@@ -1,5 +1,5 @@
 -- What lent memory holds: vertex rows, link rows and bytes, and which table a vertex has there.
-use Rattle.std.specs.Prelude.{◌≡◌, ℕ, zero, suc, ◌+◌, ◌<◌, ◌≤◌, false, cond, List, [], ◌∷◌, ◌++◌, map, length, get_or, take, drop, ◌==◌, slice_index_or}
+use Rattle.std.specs.Prelude.{◌≡◌, ℕ, suc, ◌+◌, ◌<◌, ◌≤◌, false, cond, List, [], ◌∷◌, ◌++◌, map, length, get_or, take, drop, ◌==◌, slice_index_or}
 use Rattle.rows.specs.declared.LinkRow.{LinkRow}
 use Rattle.rows.specs.declared.LinkWidth.TheVariants.{Zero, Two, Four}
 use Rattle.graph.specs.declared.VertexRow.{VertexRow}

@@ -1,18 +1,17 @@
 -- Memory as load leaves it holds the loaded model, with the parts in table order from the front of the pool.
-use Rattle.std.proofs.Common.{◌≡◌, ℕ, zero, suc, ◌+◌, ◌-◌, ◌*◌, ◌<◌, ◌≤◌, false, ◌⊎◌, List, [], ◌∷◌, ◌++◌, map, length, get_or, take, drop, replicate, Some, None, Option, sym, refl, ap, ◌∙◌, subst, inl, inr, ⊎_elim, arith, length-append}
-use Rattle.std.specs.List.{ContainsAt as Has, flat_map, AllByRecursion as All, range_with_len}
+use Rattle.std.proofs.Common.{◌≡◌, ℕ, zero, suc, ◌+◌, ◌-◌, ◌<◌, ◌≤◌, false, List, [], ◌∷◌, map, length, take, drop, replicate, Some, None, Option, sym, refl, ap, ◌∙◌, subst, inl, arith, length-append}
+use Rattle.std.specs.List.{flat_map}
 use Rattle.std.specs.List.Sorted.{IsPermutation}
-use Rattle.std.proofs.lemmas.List.{length-map, take-map}
+use Rattle.std.proofs.lemmas.List.{length-map}
 use Rattle.std.proofs.ByRecursion.{All-weaker}
 use Rattle.std.proofs.lemmas.List.Sorted.{length_permutation}
-use Rattle.rows.specs.declared.LinkRow.{LinkRow}
 use Rattle.rows.specs.Kinds.{zero_link, zero_parent}
 use Rattle.words.specs.Grammar.{StreamTable, Stream}
 use Rattle.words.specs.Reading.{links_in, bytes_in}
 use Rattle.data_bytes.proofs.ValueLists.{length-value_bytes}
 use Rattle.coverage.specs.Meaning.{Meant}
 use Rattle.model.specs.Forest.{Lookup, Taken, Model}
-use Rattle.model.specs.Tables.{Slot, Table, model_walk}
+use Rattle.model.specs.Tables.{Table, model_walk}
 use Rattle.model.specs.Rules.{nth}
 use Rattle.model.specs.Loading.{slots_of, virtuals_of, TableAt, Loaded, table_in}
 use Rattle.model.specs.Sound.{GoodLookup}
@@ -23,8 +22,8 @@ use Rattle.model.proofs.LoadWhole.{links_parted}
 use Rattle.graph.specs.declared.VertexRow.{VertexRow}
 use Rattle.graph.specs.declared.Counts.{Counts}
 use Rattle.graph.specs.Memory.{zero_vertex, vertex_at, slot_row, virtual_rows, table_rows, flat, Bears}
-use Rattle.graph.specs.Filling.{size_of, filled_bytes, table_for, block_of, blocks_from}
-use Rattle.graph.specs.Holding.{Lent, used_of, tables_of, parent_rows, first_parent, root_at, vertex_row, PlainLookup, padded, Holds, Fresh}
+use Rattle.graph.specs.Filling.{size_of, table_for, block_of, blocks_from}
+use Rattle.graph.specs.Holding.{Lent, used_of, tables_of, parent_rows, first_parent, root_at, vertex_row, PlainLookup, padded, Fresh}
 use Rattle.load.proofs.Tables.{table_is, tables_are, rows_along}
 
 -- LENGTHS

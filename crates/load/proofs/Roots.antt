@@ -1,11 +1,10 @@
 -- The root words of a stream: where they stand, and what they name.
-use Rattle.std.proofs.Common.{◌≡◌, ℕ, zero, suc, ◌+◌, ◌-◌, ◌*◌, ◌%◌, ◌^◌, ◌<◌, ◌≤◌, List, [], ◌∷◌, ◌++◌, map, length, get_or, take, drop, sym, refl, ap, ◌∙◌, subst, arith, length-append}
+use Rattle.std.proofs.Common.{◌≡◌, ℕ, ◌+◌, ◌-◌, ◌^◌, ◌<◌, ◌≤◌, List, [], ◌∷◌, ◌++◌, map, length, take, drop, sym, refl, ap, ◌∙◌, arith, length-append}
 use Rattle.std.specs.List.{flat_map, AllByRecursion as All}
 use Rattle.std.proofs.lemmas.List.{length-map, map-append, drop_at, take_at}
-use Rattle.words.specs.declared.Token.{Token}
 use Rattle.words.specs.declared.WordKind.TheVariants.{Root, Count}
 use Rattle.words.specs.Words.{word_of}
-use Rattle.words.specs.Grammar.{StreamTable, Stream, say, table_tokens, tokens, spelled, Fine, Spells}
+use Rattle.words.specs.Grammar.{Stream, say, table_tokens, Spells}
 use Rattle.load.specs.Outcome.{root_number}
 
 -- a root word names its root

@@ -1,18 +1,18 @@
 -- The tables of a loaded model are those of its stream, vertex by vertex, and their link rows are what was laid.
-use Rattle.std.proofs.Common.{◌≡◌, ℕ, zero, suc, ◌+◌, ◌*◌, ◌<◌, ◌≤◌, ◌⊎◌, List, [], ◌∷◌, ◌++◌, map, length, get_or, take, Some, None, Option, sym, refl, ap, ◌∙◌, subst, inl, inr, ⊎_elim, arith}
-use Rattle.std.specs.List.{ContainsAt as Has, flat_map, AllByRecursion as All, range_with_len}
+use Rattle.std.proofs.Common.{◌≡◌, ℕ, suc, ◌+◌, List, [], ◌∷◌, ◌++◌, map, length, Some, None, Option, sym, refl, ap, ◌∙◌, subst, arith}
+use Rattle.std.specs.List.{flat_map, AllByRecursion as All, range_with_len}
 use Rattle.std.specs.List.Sorted.{IsPermutation}
 use Rattle.std.proofs.lemmas.List.Sorted.{IsPermutation-sym}
 use Rattle.std.proofs.ByRecursion.{has_shuffled, All-append}
 use Rattle.words.specs.Grammar.{StreamTable, Stream}
 use Rattle.coverage.specs.Meaning.{Meant}
 use Rattle.model.specs.Forest.{Ligature, LigatureSet, Subtable, Lookup, Model}
-use Rattle.model.specs.Tables.{Slot, Table, Placed, head, lookup_table, extension_table, subtable_table, coverage_table, set_table, ligature_table, set_walk, extension_walk, subtable_walk, lookup_walk, model_walk}
+use Rattle.model.specs.Tables.{Table, Placed, head, subtable_table, coverage_table, ligature_table, set_walk, extension_walk, subtable_walk, lookup_walk, model_walk}
 use Rattle.model.specs.Rules.{nth}
-use Rattle.model.specs.Loading.{slots_of, virtuals_of, TableAt, Spelt, Loaded, table_in}
+use Rattle.model.specs.Loading.{slots_of, TableAt, Loaded, table_in}
 use Rattle.model.proofs.Lists.{all-nth}
 use Rattle.model.proofs.LoadSame.{Up, up_from, rising_same}
-use Rattle.model.proofs.LoadFull.{Held, held, size}
+use Rattle.model.proofs.LoadFull.{held, size}
 use Rattle.model.proofs.LoadBack.{found}
 use Rattle.graph.specs.Memory.{table_rows, flat}
 use Rattle.graph.specs.Filling.{table_for, block_of, blocks_from}

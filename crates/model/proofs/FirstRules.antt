@@ -1,9 +1,9 @@
 -- Shaping gives the first rule with whose glyphs the string begins.
-use Rattle.std.proofs.Common.{◌≡◌, ℕ, zero, suc, ◌<◌, Bool, true, false, cond, eqb, ltb, List, [], ◌∷◌, ◌++◌, length, drop, Ok, sym, refl, ap, ◌∙◌, ⊎_elim, arith, length-append}
+use Rattle.std.proofs.Common.{◌≡◌, ℕ, ◌<◌, true, false, eqb, ltb, List, [], ◌∷◌, ◌++◌, length, drop, Ok, sym, refl, ap, ◌∙◌, ⊎_elim, arith, length-append}
 use Rattle.std.specs.List.{AllByRecursion as All}
 use Rattle.std.proofs.lemmas.Bool.{both_ways, cases_Bool, eq-eqb, eqb-true, lt-ltb, and_parts, and_from, cond-true, cond-false}
-use Rattle.model.specs.Rules.{Rule, stands, Shaped, unshaped, first_rule, shape_by}
-use Rattle.model.specs.ShapingLaws.{Begins, FirstToApply, FirstRuleShapes}
+use Rattle.model.specs.Rules.{Rule, stands, unshaped, first_rule, shape_by}
+use Rattle.model.specs.ShapingLaws.{Begins, FirstRuleShapes}
 
 front_stands : (gs rest : List ℕ) → stands gs (gs ++ rest) ≡ true
 front_stands [] rest = refl

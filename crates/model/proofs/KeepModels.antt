@@ -7,7 +7,7 @@ use Rattle.refusals.specs.declared.Pool.{Pool}
 use Rattle.refusals.specs.declared.Refusal.{Refusal}
 use Rattle.refusals.specs.declared.Refusal.TheVariants.{NoLookup, BadCeiling, TooManySubtables, IsExtension, NoRule}
 use Rattle.model.specs.Forest.{Ligature, Subtable, Lookup, Model}
-use Rattle.model.specs.Rules.{Rule, Sourced, rule_of, Shaped, subtable_rules, rules_of, sourced, sourced_set, sourced_from, sourced_rules, shape_by, shape_in, told, rule_in, rule, nth}
+use Rattle.model.specs.Rules.{Rule, Sourced, rule_of, Shaped, subtable_rules, rules_of, sourced, sourced_set, sourced_from, sourced_rules, shape_by, shape_in, told, rule_in, nth}
 use Rattle.model.specs.Cutting.{entries, parts}
 use Rattle.model.specs.Splitting.{Capacities, Changed, Bill, divided, split_lookup, is_wrapped, split_bill, room_for, with_lookup, all_cuts, first_long, subtables_after, subtable_limit, noted, split_with, split_short, split_in, split, wrap_bill, wrap_lookup, wrap_in, wrap}
 use Rattle.model.specs.KeepingLaws.{Headed, SplittingKeepsHeads, WrappingKeepsHeads, Named, named, named_rules, answered, rules_in, named_in, SameRules, DivisionsKeepRules, SplittingKeepsRules, WrappingKeepsRules}

@@ -1,17 +1,15 @@
 -- What is known of one call, gathered for the law: from the theorems on splitting, numbering and written lookups.
-use Rattle.std.proofs.Common.{◌≡◌, ℕ, ◌≤◌, List, set, Some, Ok, Err, Option, Result, sym, refl, ap, ◌∙◌, subst, arith}
-use Rattle.std.specs.List.{AllByRecursion as All}
+use Rattle.std.proofs.Common.{◌≡◌, ℕ, ◌≤◌, List, Some, Ok, Err, Option, Result, refl, ap, ◌∙◌, arith}
 use Rattle.refusals.specs.declared.Refusal.{Refusal}
 use Rattle.coverage.specs.Meaning.{Meant}
-use Rattle.model.specs.Forest.{Subtable, Lookup, Model}
+use Rattle.model.specs.Forest.{Subtable, Model}
 use Rattle.model.specs.Rules.{nth}
 use Rattle.model.specs.Cutting.{subtable_size}
 use Rattle.model.specs.Splitting.{Capacities, Changed, is_wrapped, split_lookup, split, wrap_lookup, wrap}
-use Rattle.model.specs.Sound.{Lawful, GoodLookup, Good, WroteWell}
+use Rattle.model.specs.Sound.{Lawful, GoodLookup, Good}
 use Rattle.model.specs.Loading.{Loads, accepted}
 use Rattle.model.specs.Book.{do_split, do_wrap, do_write, do_shape, do_rule, do_read, changed_model}
 use Rattle.model.specs.Law.{Writes, EveryAnswerAgrees, EveryLineBehindALoadAgrees, CallsKeepModelsWellFormed}
-use Rattle.model.specs.NumberingLaws.{Splits, Wraps}
 use Rattle.model.proofs.Lists.{all-nth, nth_set_same}
 use Rattle.model.proofs.KeepModels.{split_made, wrap_made, split_lookup_keeps_rules, wrap_lookup_keeps_rules}
 use Rattle.model.proofs.KeepSizes.{split_all_within, split_all_no_larger, extended_all}

@@ -8,7 +8,7 @@ use Rattle.data_bytes.specs.Values.{value_bytes, values, values_at}
 use Rattle.data_bytes.proofs.Places.{length_put_at}
 use Rattle.data_bytes.proofs.Spellings.{length_spelled, number_spelled}
 use Rattle.data_bytes.proofs.ValueLists.{length-value_bytes, value_bytes-append, values_value_bytes, word16-value_bytes}
-use Rattle.model.specs.Tables.{Slot, slot, slots_from, zeros, extension_bytes}
+use Rattle.model.specs.Tables.{Slot, slots_from, zeros, extension_bytes}
 use Rattle.model.specs.Writing.{Start, start_of, offset, fill_slots}
 
 -- the bytes b stand at p

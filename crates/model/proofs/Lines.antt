@@ -1,29 +1,28 @@
 -- The law, from what is known of one call: split and wrap keep rules and well-formedness, written bytes are read back, no offset overflows.
-use Rattle.std.proofs.Common.{◌≡◌, ℕ, zero, suc, ◌+◌, ◌<◌, ◌≤◌, Bool, true, false, cond, ◌&&◌, eqb, ltb, leb, ◌⊎◌, List, [], ◌∷◌, ◌++◌, map, length, drop, set, Some, None, Ok, Err, Option, Result, sym, refl, ap, ◌∙◌, subst, inl, inr, ⊎_elim, arith}
+use Rattle.std.proofs.Common.{◌≡◌, ℕ, zero, suc, ◌≤◌, false, cond, ltb, leb, ◌⊎◌, List, [], ◌∷◌, ◌++◌, map, length, set, Some, None, Ok, Err, Option, Result, sym, refl, ap, ◌∙◌, subst, inl, inr, ⊎_elim, arith}
 use Rattle.std.proofs.lemmas.List.{map-append}
-use Rattle.std.proofs.lemmas.Bool.{both_ways, and_parts, leb-true, leb-false, eqb-true, cases_Bool, cases_lt, cond-true, cond-false}
+use Rattle.std.proofs.lemmas.Bool.{both_ways, cases_Bool, cond-true, cond-false}
 use Rattle.std.proofs.ByRecursion.{All-weaker}
 use Rattle.std.specs.List.{flat_map, AllByRecursion as All}
-use Rattle.refusals.specs.declared.Pool.{Pool}
 use Rattle.refusals.specs.declared.Refusal.{Refusal}
-use Rattle.refusals.specs.declared.Refusal.TheVariants.{NoLookup, NoRule, OffsetOverflow, BadCeiling, LongLigature, TooManySubtables, IsExtension, NoRoom, ShortBuffer, NoPlace}
+use Rattle.refusals.specs.declared.Refusal.TheVariants.{OffsetOverflow, ShortBuffer, NoPlace}
 use Rattle.data_bytes.specs.Values.{value_bytes}
 use Rattle.coverage.specs.Meaning.{Meant}
-use Rattle.model.specs.Forest.{Ligature, LigatureSet, Subtable, Lookup, Model}
-use Rattle.model.specs.Tables.{vertex_of, count_of, lookup_walk, ligature_table, model_walk, part_of}
-use Rattle.model.specs.Rules.{Rule, Sourced, Shaped, rule_of, set_rules, subtable_rules, rules_of, sourced, sourced_set, sourced_from, sourced_rules, shape_by, shape_in, shape, told, rule_in, rule, nth, first_rule}
+use Rattle.model.specs.Forest.{Subtable, Lookup, Model}
+use Rattle.model.specs.Tables.{ligature_table, model_walk, part_of}
+use Rattle.model.specs.Rules.{Rule, Sourced, Shaped, subtable_rules, rules_of, sourced, sourced_set, sourced_from, sourced_rules, shape_by, shape_in, shape, told, rule_in, rule, nth}
 use Rattle.model.specs.Cutting.{subtable_size}
-use Rattle.model.specs.Splitting.{Capacities, Changed, split_bill, split_lookup, subtables_after, first_long, room_for, noted, split_with, split_short, split_in, split, is_wrapped, wrap_bill, wrap_lookup, wrap_in, wrap, with_lookup, subtable_limit}
-use Rattle.model.specs.Writing.{overflows, written, written_size, write_in, write}
+use Rattle.model.specs.Splitting.{Capacities, Changed, split_lookup, first_long, split, wrap_lookup, wrap}
+use Rattle.model.specs.Writing.{overflows, written, written_size, write_in}
 use Rattle.model.specs.Reading.{rules_in, shape_read, read}
-use Rattle.model.specs.Sound.{Distinct, Good, GoodLookup}
-use Rattle.model.specs.Book.{Call, do_split, do_wrap, do_write, do_shape, do_rule, do_read, Answer, refused, count, wrote, shaped, ruled, accepted, Page, page_of, book_of, lower, with_ceiling, with_kind7, on_page, fed, book_shapes, page_shapes, rule_told, page_rule, book_rule, Desk, output_of, answer_change, changed_model, answer_write, answer_shape, first_of, triple_of, answer_rule, answer, next_model, put_out, next_desk}
+use Rattle.model.specs.Sound.{Good}
+use Rattle.model.specs.Book.{Call, do_split, do_wrap, do_write, do_shape, do_rule, do_read, Answer, refused, wrote, accepted, Page, page_of, book_of, lower, with_ceiling, with_kind7, on_page, page_shapes, rule_told, page_rule, Desk, output_of, answer_change, changed_model, answer_write, answer_shape, first_of, triple_of, answer_rule, answer, put_out, next_desk}
 use Rattle.model.specs.WrittenLaws.{SoundLookup}
 use Rattle.model.proofs.Lists.{some_same}
 use Rattle.model.proofs.KeepModels.{split_made, wrap_made}
 use Rattle.model.proofs.WrittenModels.{sound_nth}
 use Rattle.model.proofs.Sources.{source, bytes_of}
-use Rattle.model.specs.Law.{Shelf, kept_if, keeps, fed_shelf, Names, SameRule, SameRead, NoOverflow, Agrees, Under, Ceilings, none, more, Writes, WritesAlong, AgreesAlong, EveryAnswerAgrees}
+use Rattle.model.specs.Law.{Shelf, kept_if, fed_shelf, Names, SameRule, SameRead, NoOverflow, Agrees, Under, Ceilings, none, more, Writes, WritesAlong, AgreesAlong, EveryAnswerAgrees}
 use Rattle.model.proofs.KeepTelling.{tells_map}
 
 -- a page and its lookup

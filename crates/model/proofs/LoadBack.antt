@@ -1,33 +1,31 @@
 -- A well-formed model is loaded from the words of its tables.
-use Rattle.std.proofs.Common.{◌≡◌, ℕ, zero, suc, ◌+◌, ◌*◌, ◌/◌, ◌%◌, ◌^◌, ◌<◌, ◌≤◌, Bool, true, false, cond, ◌&&◌, eqb, ltb, leb, ◌⊎◌, List, [], ◌∷◌, ◌++◌, map, length, get_or, replicate, is_some, IfSome, Some, None, Ok, Err, sum_by, count_by, Option, sym, refl, ap, ◌∙◌, subst, inl, inr, ⊎_elim, arith}
-use Rattle.std.specs.List.{ContainsAt as Has, flat_map, AllByRecursion as All, range_with_len}
+use Rattle.std.proofs.Common.{◌≡◌, ℕ, zero, suc, ◌+◌, ◌*◌, ◌^◌, ◌<◌, ◌≤◌, Bool, true, false, cond, ◌&&◌, eqb, ltb, leb, ◌⊎◌, List, [], ◌∷◌, ◌++◌, map, length, is_some, IfSome, Some, None, Ok, sum_by, count_by, Option, sym, refl, ap, ◌∙◌, subst, inl, inr, ⊎_elim, arith}
+use Rattle.std.specs.List.{flat_map, AllByRecursion as All, range_with_len}
 use Rattle.std.specs.Option.{option_to_list}
 use Rattle.std.proofs.lemmas.List.{length-append, length-map, length-replicate}
 use Rattle.std.proofs.lemmas.List.Sums.{sum_by-cons}
 use Rattle.std.proofs.ByRecursion.{All-append, All-map, All-weaker}
 use Rattle.std.proofs.lemmas.List.FromFn.{length-map-range_with_len}
 use Rattle.std.proofs.lemmas.List.Sorted.{IsPermutation-refl}
-use Rattle.std.proofs.lemmas.Bool.{cases_eq, cases_Bool, eq-eqb, eqb-true, eqb-false, ne_eqb, cond-true, cond-false, cond_both, and_parts, leb-true, le-leb}
+use Rattle.std.proofs.lemmas.Bool.{cases_eq, eq-eqb, eqb-true, ne_eqb, cond-true, cond-false, cond_both, and_parts, leb-true, le-leb}
 use Rattle.std.specs.List.Sorted.{IsPermutation}
 use Rattle.refusals.specs.declared.Pool.{Pool}
 use Rattle.refusals.specs.declared.Pool.TheVariants.{Vertices, Links, Bytes}
-use Rattle.words.specs.declared.Width.{Width}
 use Rattle.words.specs.declared.Width.TheVariants.{Two, Four}
-use Rattle.words.specs.Grammar.{StreamLink, real, virtual, StreamTable, Stream, FineLink, FineTable, Uncounted, Fine, Spells, spelled}
+use Rattle.words.specs.Grammar.{virtual, FineLink, FineTable, Fine, spelled}
 use Rattle.words.specs.Reading.{links_in, bytes_in}
 use Rattle.data_bytes.specs.Values.{value_bytes, values}
 use Rattle.data_bytes.proofs.ValueLists.{length-value_bytes, values_value_bytes}
 use Rattle.coverage.specs.Glyphs.{GlyphList, is_glyph_list_of, rises, small}
 use Rattle.coverage.specs.Meaning.{Meant}
 use Rattle.model.specs.Forest.{Ligature, LigatureSet, Subtable, Lookup, Taken, Model}
-use Rattle.model.specs.Tables.{Slot, slot, slots_from, Table, Placed, zeros, head, head_or, extension_bytes, lookup_table, extension_table, subtable_table, coverage_table, set_table, ligature_table, set_walk, extension_walk, subtable_walk, lookup_walk, model_walk, vertex_of, count_of, targets, links_of}
-use Rattle.model.specs.Rules.{nth}
+use Rattle.model.specs.Tables.{Slot, slot, slots_from, Table, Placed, zeros, head, head_or, lookup_table, extension_table, subtable_table, coverage_table, set_table, ligature_table, set_walk, extension_walk, subtable_walk, lookup_walk, model_walk, vertex_of, count_of, targets}
 use Rattle.model.specs.Splitting.{Capacities, subtable_limit}
 use Rattle.model.specs.Sound.{Value, GoodLigature, GoodSet, GoodSubtable, GoodLookup, Good, Lawful, Distinct, glyphs_meant}
 use Rattle.model.specs.Loading.{width_of, slots_of, virtuals_of, TableAt, Spelt, taken_by, short_of, Holds, Loaded, Loads, accepted, no_table, table_in, link_of, spell_table, stream_of, tidy}
 use Rattle.model.specs.LoadingLaws.{Enough, ModelsLoad}
-use Rattle.model.proofs.Lists.{all_both, all_parts_lem, all_mapped, all_any, all_joined, joined_all, one, one_same, one_other, option_few, option_all}
-use Rattle.model.proofs.LoadLists.{count_cons, nth_counting, sum_same, sum_one, sum_zero, value_bytes_values, values_small}
+use Rattle.model.proofs.Lists.{all_both, all_parts_lem, all_mapped, all_any, joined_all, one, one_same, one_other, option_few, option_all}
+use Rattle.model.proofs.LoadLists.{count_cons, nth_counting, sum_one, sum_zero, value_bytes_values, values_small}
 
 -- WHAT EACH TABLE OF A WELL-FORMED MODEL IS LIKE, of a model of n vertices
 pub record SoundSlot (n size : ℕ) (l : Slot) : Type 0 where

@@ -1,5 +1,5 @@
 -- A stream with no loose link, no stray and no faulty place is the tables of a model.
-use Rattle.std.proofs.Common.{◌≡◌, ℕ, zero, suc, ◌+◌, ◌*◌, ◌/◌, ◌%◌, ◌<◌, ◌≤◌, Bool, true, false, cond, eqb, ◌⊎◌, List, [], ◌∷◌, ◌++◌, map, length, get_or, is_some, IfSome, Some, None, Option, sym, refl, ap, ◌∙◌, subst, inl, inr, ⊎_elim, arith}
+use Rattle.std.proofs.Common.{◌≡◌, ℕ, zero, suc, ◌+◌, ◌<◌, Bool, true, false, cond, eqb, List, [], ◌∷◌, ◌++◌, map, length, get_or, is_some, IfSome, Some, None, Option, sym, refl, ap, ◌∙◌, subst, ⊎_elim, arith}
 use Rattle.std.specs.List.{ContainsAt as Has, flat_map, AllByRecursion as All}
 use Rattle.std.specs.List.Sorted.{IsPermutation}
 use Rattle.std.specs.Option.{option_to_list}
@@ -14,11 +14,10 @@ use Rattle.data_bytes.specs.BigEndian.{Bytes}
 use Rattle.data_bytes.specs.Values.{value_bytes}
 use Rattle.coverage.specs.Meaning.{Meant}
 use Rattle.model.specs.Forest.{Ligature, LigatureSet, Subtable, Lookup, Model}
-use Rattle.model.specs.Tables.{Slot, slot, slots_from, Table, Placed, zeros, head, lookup_table, extension_table, subtable_table, coverage_table, set_table, ligature_table, set_walk, subtable_walk, lookup_walk, model_walk}
-use Rattle.model.specs.Splitting.{subtable_limit}
+use Rattle.model.specs.Tables.{Slot, slot, slots_from, Table, zeros, head, lookup_table, extension_table, subtable_table, coverage_table, set_table, ligature_table, set_walk, subtable_walk, lookup_walk}
 use Rattle.model.specs.Rules.{nth}
-use Rattle.model.specs.Sound.{Value, GoodLigature, GoodSet, GoodSubtable, GoodLookup, glyphs_meant}
-use Rattle.model.specs.Loading.{slots_of, virtuals_of, bytes_of, TableAt, Spelt, taken_by, nowhere, Loosely, Strays, Never, LookupShape, Place, at_lookup, at_extension, at_subtable, at_coverage, at_set, at_ligature, Kind, is_lookup, is_extension, is_subtable, is_coverage, is_set, is_ligature, Stands, root, extension, plain, wrapped, coverage, set, ligature, value_at, Faulty, Holds, Loaded}
+use Rattle.model.specs.Sound.{Value, GoodLigature, GoodSet, GoodSubtable, GoodLookup}
+use Rattle.model.specs.Loading.{slots_of, bytes_of, TableAt, Spelt, taken_by, nowhere, Loosely, Strays, Never, LookupShape, Place, at_lookup, at_subtable, at_set, Kind, is_lookup, is_subtable, is_set, is_ligature, Stands, root, extension, plain, wrapped, coverage, set, ligature, value_at, Faulty, Holds, Loaded}
 use Rattle.model.proofs.Lists.{all_parts_lem, all_joined, all-nth}
 use Rattle.model.proofs.LoadLists.{nth-has, nth-map, nth_mapped, nth_there}
 use Rattle.model.proofs.LoadSame.{has_first, has_later, same_values}

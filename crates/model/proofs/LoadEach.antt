@@ -1,23 +1,22 @@
 -- What stands at a place, and whether it is refused there, can be settled.
-use Rattle.std.proofs.Common.{◌≡◌, ℕ, zero, suc, ◌+◌, ◌*◌, ◌<◌, ◌≤◌, Bool, true, false, cond, ◌⊎◌, List, [], ◌∷◌, ◌++◌, map, length, get_or, Some, None, count_by, Option, sym, refl, ap, ◌∙◌, subst, inl, inr, ⊎_elim, arith}
-use Rattle.std.specs.List.{ContainsAt as Has, AllByRecursion as All}
+use Rattle.std.proofs.Common.{◌≡◌, ℕ, ◌≤◌, ◌⊎◌, List, length, Some, None, count_by, Option, sym, refl, ap, ◌∙◌, subst, inl, inr, ⊎_elim, arith}
 use Rattle.std.proofs.lemmas.Bool.{cases_eq, cases_lt}
 use Rattle.refusals.specs.declared.Refusal.{Refusal}
 use Rattle.refusals.specs.declared.Refusal.TheVariants.{BadShape, BadCoverage, Empty, BadVirtual, TooManySubtables}
 use Rattle.words.specs.Grammar.{StreamTable, Stream}
 use Rattle.words.proofs.Saying.{none_some}
 use Rattle.coverage.specs.Meaning.{Meant}
-use Rattle.model.specs.Forest.{Ligature, LigatureSet, Subtable, Lookup, Model}
-use Rattle.model.specs.Tables.{Slot, head, lookup_table, extension_table, subtable_table, set_table}
+use Rattle.model.specs.Forest.{Ligature, LigatureSet, Subtable, Lookup}
+use Rattle.model.specs.Tables.{head, lookup_table, subtable_table, set_table}
 use Rattle.model.specs.Splitting.{subtable_limit}
 use Rattle.model.specs.Rules.{nth}
-use Rattle.model.specs.Loading.{slots_of, virtuals_of, bytes_of, TableAt, Spelt, Loose, shared, Loosely, Never, LookupShape, ExtensionShape, SubtableShape, SetShape, Place, at_lookup, at_extension, at_subtable, at_coverage, at_set, at_ligature, Kind, is_lookup, is_extension, is_subtable, is_coverage, is_set, is_ligature, Stands, root, extension, plain, wrapped, coverage, set, ligature, Shaped, value_at, Few, Filled, Covered, virtuals_at, Fault, misshapen, crowded, bare, uncovered, untied, Faulty}
+use Rattle.model.specs.Loading.{slots_of, virtuals_of, bytes_of, TableAt, shared, Loosely, Never, LookupShape, Place, at_lookup, at_extension, at_subtable, at_coverage, at_set, at_ligature, Kind, is_lookup, is_extension, is_subtable, is_coverage, is_set, is_ligature, Stands, root, extension, plain, wrapped, coverage, set, ligature, Shaped, value_at, Few, Filled, Covered, virtuals_at, Fault, misshapen, crowded, bare, uncovered, untied, Faulty}
 use Rattle.model.proofs.Lists.{some_same}
 use Rattle.model.proofs.LoadLists.{nth-map, nth_mapped}
-use Rattle.model.proofs.LoadSame.{SameLookup, lookup_same, extension_same, subtable_same, set_same}
+use Rattle.model.proofs.LoadSame.{SameLookup, lookup_same, subtable_same, set_same}
 use Rattle.model.proofs.LoadBack.{at_position}
 use Rattle.model.proofs.LoadFull.{table_same}
-use Rattle.model.proofs.LoadWalk.{shared_table, rooted, roots_same, Extended, extended, stands_same, set_under}
+use Rattle.model.proofs.LoadWalk.{shared_table, rooted, roots_same, extended, stands_same, set_under}
 use Rattle.model.proofs.LoadOwned.{Passes, passed}
 use Rattle.model.proofs.LoadSought.{Settled, settled_both, settled_as, settled_le, settled_lt, nth_settled}
 use Rattle.model.proofs.LoadShapes.{settled_list, shaped_settled}

@@ -1,7 +1,6 @@
 -- In a stream that is a model's tables every link is in place, and every vertex is entered once and reached.
-use Rattle.std.proofs.Common.{◌≡◌, ℕ, zero, suc, ◌+◌, ◌*◌, ◌<◌, ◌≤◌, Bool, true, false, cond, eqb, ◌⊎◌, List, [], ◌∷◌, ◌++◌, map, length, get_or, Some, None, sum_by, count_by, Option, sym, refl, ap, ◌∙◌, subst, inl, inr, ⊎_elim, arith}
+use Rattle.std.proofs.Common.{◌≡◌, ℕ, zero, suc, ◌+◌, ◌<◌, ◌≤◌, Bool, cond, eqb, List, [], ◌∷◌, ◌++◌, map, length, Some, None, sum_by, count_by, Option, sym, refl, ap, ◌∙◌, subst, ⊎_elim, arith}
 use Rattle.std.specs.List.{ContainsAt as Has, flat_map, AllByRecursion as All, range_with_len}
-use Rattle.std.specs.List.Sorted.{IsPermutation}
 use Rattle.std.proofs.lemmas.List.{map-append, length-map}
 use Rattle.std.proofs.lemmas.List.Sums.{sum_by-cons, sum_by-append}
 use Rattle.std.proofs.ByRecursion.{All-append, All-map, All-weaker, all-has, all_has_itself, all_shuffled, has_shuffled}
@@ -10,14 +9,14 @@ use Rattle.std.proofs.lemmas.Bool.{cases_eq, cases_lt}
 use Rattle.words.specs.Grammar.{StreamTable, Stream}
 use Rattle.coverage.specs.Meaning.{Meant}
 use Rattle.model.specs.Forest.{Ligature, LigatureSet, Subtable, Lookup, Taken, Model}
-use Rattle.model.specs.Tables.{Slot, slot, slots_from, Table, Placed, head, head_or, lookup_table, extension_table, subtable_table, coverage_table, set_table, ligature_table, set_walk, extension_walk, subtable_walk, lookup_walk, model_walk, vertex_of, count_of}
+use Rattle.model.specs.Tables.{Slot, slots_from, Table, Placed, head, head_or, lookup_table, extension_table, subtable_table, coverage_table, set_table, ligature_table, set_walk, extension_walk, subtable_walk, lookup_walk, model_walk, vertex_of, count_of}
 use Rattle.model.specs.Rules.{nth}
-use Rattle.model.specs.Sound.{Good, Lawful, Distinct}
-use Rattle.model.specs.Loading.{slots_of, virtuals_of, bytes_of, TableAt, Spelt, taken_by, Loose, nowhere, nowhere_virtual, beyond, shared, Loosely, named, entered, Reached, root, onward, Astray, root_entered, entered_twice, named_twice, unreached, Strays, Never, Holds, Loaded, no_table, table_in}
+use Rattle.model.specs.Sound.{Distinct}
+use Rattle.model.specs.Loading.{slots_of, virtuals_of, bytes_of, TableAt, Spelt, Loose, nowhere, nowhere_virtual, beyond, shared, Loosely, named, entered, Reached, root, onward, Astray, root_entered, entered_twice, named_twice, unreached, Strays, Never, Holds, Loaded, table_in}
 use Rattle.model.proofs.Lists.{all_parts_lem, some_same, all-nth, count_append, distinct_count, one, one_same, one_other}
-use Rattle.model.proofs.LoadLists.{count_cons, nth_below, nth-has, nth-map, nth_mapped, nth_there, sum_same, sum_one, sum_zero}
+use Rattle.model.proofs.LoadLists.{count_cons, nth_below, nth_there, sum_one, sum_zero}
 use Rattle.model.proofs.LoadSame.{targets_from}
-use Rattle.model.proofs.LoadBack.{SoundSlot, Sound, SoundAt, Below, walk_sound, found, tally, at_position}
+use Rattle.model.proofs.LoadBack.{SoundSlot, Sound, SoundAt, found, tally, at_position}
 use Rattle.model.proofs.NumberSums.{tally_sum, tally_plus}
 
 -- ALL NUMBERS BELOW n, EACH ONCE

@@ -1,19 +1,18 @@
 -- A list of words has one outcome: one refusal or one model.
-use Rattle.std.proofs.Common.{◌≡◌, ℕ, zero, suc, ◌+◌, ◌<◌, ◌≤◌, Bool, true, false, cond, ◌⊎◌, List, [], ◌∷◌, ◌++◌, map, length, get_or, is_some, Some, None, Ok, Err, Option, Result, sym, refl, ap, ◌∙◌, subst, inl, inr, ⊎_elim, arith}
+use Rattle.std.proofs.Common.{◌≡◌, ℕ, Bool, true, false, ◌⊎◌, List, [], ◌∷◌, map, length, is_some, Some, None, Ok, Err, Option, Result, sym, refl, ap, ◌∙◌, subst, inl, inr, ⊎_elim, arith}
 use Rattle.std.specs.List.{flat_map, AllByRecursion as All}
 use Rattle.std.proofs.lemmas.Bool.{both_ways, cases_order}
 use Rattle.refusals.specs.declared.Pool.{Pool}
 use Rattle.refusals.specs.declared.Refusal.{Refusal}
 use Rattle.refusals.specs.declared.Refusal.TheVariants.{BadWord, NoRoom, BadLink, BadEntry}
 use Rattle.words.specs.Grammar.{StreamTable, Stream, Spells, Misfit}
-use Rattle.words.specs.Reading.{parse}
 use Rattle.words.proofs.Saying.{none_some, cons_nil}
 use Rattle.words.proofs.Whole.{streams_spell_lem, misfits_tell_lem}
 use Rattle.coverage.specs.Meaning.{Meant}
 use Rattle.model.specs.Forest.{Ligature, LigatureSet, Subtable, Lookup, Model}
-use Rattle.model.specs.Tables.{Table, Placed, head, head_or, lookup_table, extension_table, subtable_table, coverage_table, set_table, ligature_table, set_walk, extension_walk, subtable_walk, lookup_walk, model_walk}
+use Rattle.model.specs.Tables.{Placed, head, head_or, lookup_table, extension_table, subtable_table, coverage_table, set_table, ligature_table, set_walk, extension_walk, subtable_walk, lookup_walk}
 use Rattle.model.specs.Splitting.{Capacities}
-use Rattle.model.specs.Sound.{GoodSubtable, GoodLookup, Good, Lawful, glyphs_meant}
+use Rattle.model.specs.Sound.{GoodSubtable, GoodLookup, Lawful, glyphs_meant}
 use Rattle.model.specs.Loading.{TableAt, Spelt, taken_by, short_of, Loosely, Strays, Lowest, Never, FirstFault, Holds, Loaded, Loads, misfit, short, loose, astray, faulty, accepted}
 use Rattle.model.specs.LoadingLaws.{OutcomesUnique}
 use Rattle.model.proofs.Lists.{all_parts_lem, joined_all, some_same}

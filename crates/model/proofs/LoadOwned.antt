@@ -1,5 +1,5 @@
 -- In a stream that is a model's tables every place of the walk has the model's table there, and none of them is refused.
-use Rattle.std.proofs.Common.{◌≡◌, ℕ, zero, suc, ◌+◌, ◌*◌, ◌<◌, ◌≤◌, Bool, true, false, cond, ◌⊎◌, List, [], ◌∷◌, ◌++◌, map, length, get_or, is_some, Some, None, Option, sym, refl, ap, ◌∙◌, subst, inl, inr, ⊎_elim, arith}
+use Rattle.std.proofs.Common.{◌≡◌, ℕ, true, false, List, [], ◌∷◌, ◌++◌, length, get_or, is_some, Some, None, Option, sym, refl, ap, ◌∙◌, subst, inl, inr, ⊎_elim, arith}
 use Rattle.std.specs.List.{flat_map, AllByRecursion as All}
 use Rattle.std.specs.Option.{option_to_list}
 use Rattle.std.proofs.lemmas.List.{length-map, nil_from_length}
@@ -10,11 +10,11 @@ use Rattle.words.specs.Grammar.{StreamTable, Stream}
 use Rattle.data_bytes.specs.Values.{value_bytes}
 use Rattle.coverage.specs.Meaning.{Meant}
 use Rattle.model.specs.Forest.{Ligature, LigatureSet, Subtable, Lookup, Model}
-use Rattle.model.specs.Tables.{Table, Placed, zeros, head, head_or, lookup_table, extension_table, subtable_table, coverage_table, set_table, ligature_table, set_walk, extension_walk, subtable_walk, lookup_walk, model_walk}
+use Rattle.model.specs.Tables.{Placed, zeros, head, head_or, lookup_table, extension_table, subtable_table, coverage_table, set_table, ligature_table, set_walk, extension_walk, subtable_walk, lookup_walk}
 use Rattle.model.specs.Rules.{nth}
-use Rattle.model.specs.Sound.{GoodLigature, GoodSet, GoodSubtable, GoodLookup, Good, glyphs_meant}
-use Rattle.model.specs.Loading.{slots_of, virtuals_of, bytes_of, TableAt, Spelt, LookupShape, ExtensionShape, SubtableShape, SetShape, LigatureShape, CoverageShape, Place, at_lookup, Kind, is_lookup, is_extension, is_subtable, is_coverage, is_set, is_ligature, Stands, root, extension, plain, wrapped, coverage, set, ligature, Shaped, value_at, Few, Filled, Covered, virtuals_at, Fault, misshapen, crowded, bare, uncovered, untied, Faulty, Holds, Loaded}
-use Rattle.model.proofs.Lists.{all_parts_lem, all_mapped, joined_all, some_same, all-nth}
+use Rattle.model.specs.Sound.{GoodSet, GoodSubtable, GoodLookup, glyphs_meant}
+use Rattle.model.specs.Loading.{slots_of, virtuals_of, bytes_of, TableAt, Spelt, LookupShape, ExtensionShape, SubtableShape, SetShape, Place, at_lookup, Kind, is_lookup, is_extension, is_subtable, is_coverage, is_set, is_ligature, Stands, root, extension, plain, wrapped, coverage, set, ligature, Shaped, value_at, Few, Filled, Covered, virtuals_at, Fault, misshapen, crowded, bare, uncovered, untied, Faulty, Holds, Loaded}
+use Rattle.model.proofs.Lists.{all_parts_lem, all_mapped, joined_all, all-nth}
 use Rattle.model.proofs.LoadLists.{nth-map, nth_mapped}
 use Rattle.model.proofs.LoadSame.{SameLookup, same_values, lookup_same, extension_same, subtable_same, set_same}
 use Rattle.model.proofs.LoadFull.{table_same}

@@ -1,17 +1,16 @@
 -- A table of the stream is the table of one lookup, subtable, set or ligature at most.
-use Rattle.std.proofs.Common.{◌≡◌, ℕ, zero, suc, ◌+◌, ◌*◌, ◌<◌, ◌≤◌, Bool, true, false, cond, ◌⊎◌, List, [], ◌∷◌, ◌++◌, map, length, get_or, Some, None, Option, sym, refl, ap, ◌∙◌, subst, inl, inr, ⊎_elim, arith}
+use Rattle.std.proofs.Common.{◌≡◌, ℕ, zero, suc, ◌+◌, ◌<◌, ◌≤◌, ◌⊎◌, List, [], ◌∷◌, ◌++◌, map, length, get_or, Some, None, Option, sym, refl, ap, ◌∙◌, inl, inr, ⊎_elim, arith}
 use Rattle.std.specs.List.{ContainsAt as Has, AllByRecursion as All}
-use Rattle.std.specs.List.Sorted.{IsPermutation}
 use Rattle.std.specs.Option.{option_to_list}
 use Rattle.std.proofs.lemmas.List.{append_cancel_left}
-use Rattle.std.proofs.ByRecursion.{all-has, all_has_itself, has_shuffled}
-use Rattle.std.proofs.lemmas.List.Sorted.{IsPermutation-sym, IsPermutation-trans}
+use Rattle.std.proofs.ByRecursion.{all-has, has_shuffled}
+use Rattle.std.proofs.lemmas.List.Sorted.{IsPermutation-sym}
 use Rattle.words.specs.Grammar.{StreamTable}
 use Rattle.words.proofs.Saying.{cons_nil}
 use Rattle.data_bytes.specs.Values.{value_bytes, values}
 use Rattle.data_bytes.proofs.ValueLists.{values_value_bytes}
 use Rattle.model.specs.Forest.{Ligature, LigatureSet, Subtable, Lookup}
-use Rattle.model.specs.Tables.{Slot, slot, slots_from, Table, zeros, head, lookup_table, extension_table, subtable_table, set_table, ligature_table}
+use Rattle.model.specs.Tables.{Slot, slots_from, Table, zeros, head, lookup_table, extension_table, subtable_table, set_table, ligature_table}
 use Rattle.model.specs.Loading.{slots_of, Spelt}
 
 -- MEMBERS

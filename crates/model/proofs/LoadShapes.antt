@@ -1,23 +1,21 @@
 -- Whether a table has the shape of its kind can be settled: its links by position, and what its values say, leave one candidate.
-use Rattle.std.proofs.Common.{◌≡◌, ℕ, zero, suc, ◌+◌, ◌*◌, ◌<◌, ◌≤◌, Bool, true, false, cond, eqb, leb, ◌⊎◌, List, [], ◌∷◌, ◌++◌, map, length, get_or, drop, is_some, Some, None, count_by, Option, sym, refl, ap, ◌∙◌, subst, inl, inr, ⊎_elim, arith}
-use Rattle.std.specs.List.{ContainsAt as Has, AllByRecursion as All}
+use Rattle.std.proofs.Common.{◌≡◌, ℕ, suc, ◌≤◌, Bool, true, false, cond, leb, ◌⊎◌, List, [], ◌∷◌, ◌++◌, map, length, get_or, drop, is_some, Some, None, count_by, Option, sym, refl, ap, ◌∙◌, subst, inl, inr, ⊎_elim, arith}
 use Rattle.std.specs.List.Sorted.{IsPermutation}
 use Rattle.std.specs.Option.{option_to_list}
 use Rattle.std.proofs.lemmas.List.{length-map, length-replicate, get_or_at}
-use Rattle.std.proofs.lemmas.List.Sums.{sum_by-cons}
 use Rattle.std.proofs.lemmas.List.Sorted.{IsPermutation-refl, IsPermutation-sym, IsPermutation-cons, IsPermutation-swap, IsPermutation-trans, sum_by-IsPermutation}
 use Rattle.std.proofs.ByRecursion.{has_shuffled}
-use Rattle.std.proofs.lemmas.Bool.{cases_eq, cases_Bool, cond_both, leb-true, leb-false, cases_lt, both_ways}
-use Rattle.words.specs.Grammar.{StreamTable, Stream}
+use Rattle.std.proofs.lemmas.Bool.{cases_eq, cond_both, leb-true, leb-false, cases_lt, both_ways}
+use Rattle.words.specs.Grammar.{StreamTable}
 use Rattle.words.proofs.Saying.{cons_nil}
 use Rattle.data_bytes.specs.Values.{value_bytes}
 use Rattle.model.specs.Forest.{Ligature, LigatureSet, Subtable, Lookup}
-use Rattle.model.specs.Tables.{Slot, slot, slots_from, Table, zeros, head, extension_bytes, lookup_table, extension_table, subtable_table, set_table, ligature_table}
+use Rattle.model.specs.Tables.{Slot, slot, slots_from, Table, zeros, head, lookup_table, extension_table, subtable_table, set_table, ligature_table}
 use Rattle.model.specs.Reading.{has_mark}
 use Rattle.model.specs.Loading.{slots_of, bytes_of, Spelt, LookupShape, ExtensionShape, SubtableShape, SetShape, LigatureShape, CoverageShape, Kind, is_lookup, is_extension, is_subtable, is_coverage, is_set, is_ligature, Shaped, value_at}
-use Rattle.model.proofs.Lists.{one, one_same}
+use Rattle.model.proofs.Lists.{one_same}
 use Rattle.model.proofs.LoadLists.{count_cons}
-use Rattle.model.proofs.LoadSame.{Up, up_from, rising_same, targets_from, same_values, same_first, same_tail}
+use Rattle.model.proofs.LoadSame.{Up, up_from, rising_same, targets_from, same_values}
 use Rattle.model.proofs.LoadBack.{at_position}
 use Rattle.model.proofs.LoadSought.{Settled, settled_both, settled_as}
 

@@ -1,18 +1,16 @@
 -- Small streams that are refused.
-use Rattle.std.proofs.Common.{◌≡◌, ℕ, zero, suc, ◌+◌, ◌<◌, ◌≤◌, cond, leb, List, [], ◌∷◌, length, Some, None, Ok, Option, sym, refl, ap, ◌∙◌, subst, arith}
+use Rattle.std.proofs.Common.{◌≡◌, ℕ, zero, suc, ◌+◌, ◌<◌, ◌≤◌, cond, leb, List, [], ◌∷◌, length, Some, None, Option, sym, refl, ap, ◌∙◌, subst, arith}
 use Rattle.std.proofs.lemmas.Bool.{cond-true, le-leb}
-use Rattle.refusals.specs.declared.Pool.{Pool}
 use Rattle.refusals.specs.declared.Pool.TheVariants.{Vertices, Links, Bytes as Bytes'}
 use Rattle.refusals.specs.declared.Refusal.TheVariants.{BadShape}
-use Rattle.words.specs.Grammar.{spelled, StreamLink, virtual, StreamTable, Stream}
+use Rattle.words.specs.Grammar.{StreamLink, virtual, StreamTable, Stream}
 use Rattle.words.proofs.Saying.{none_some}
 use Rattle.words.proofs.Whole.{streams_spell_lem}
 use Rattle.coverage.specs.Meaning.{Meant}
-use Rattle.model.specs.Forest.{Ligature, LigatureSet, Taken}
+use Rattle.model.specs.Forest.{Taken}
 use Rattle.model.specs.Tables.{lookup_table}
 use Rattle.model.specs.Splitting.{Capacities}
-use Rattle.model.specs.Sound.{GoodLigature, GoodSet, GoodSubtable, Good, Lawful}
-use Rattle.model.specs.Loading.{short_of, stream_of, TableAt, Loose, nowhere, nowhere_virtual, beyond, shared, Loosely, Reached, root, onward, Astray, root_entered, entered_twice, named_twice, unreached, Strays, Never, at_lookup, is_lookup, Stands, Stands.root as root', Shaped, misshapen, Loads, faulty, astray, loose}
+use Rattle.model.specs.Loading.{short_of, TableAt, Loose, nowhere, nowhere_virtual, beyond, shared, Loosely, Reached, root, onward, Astray, root_entered, entered_twice, named_twice, unreached, Strays, Never, at_lookup, is_lookup, Stands.root as root', Shaped, misshapen, faulty, astray, loose}
 use Rattle.model.specs.LoadingLaws.{SmallRefused}
 use Rattle.model.proofs.Lists.{some_same}
 use Rattle.model.proofs.LoadSame.{has_first, has_none}

@@ -1,21 +1,20 @@
 -- What is asked of a stream can be settled: loose links, reached vertices, strays; and the lowest vertex of a kind can be found.
-use Rattle.std.proofs.Common.{◌≡◌, ℕ, zero, suc, ◌+◌, ◌*◌, ◌<◌, ◌≤◌, Bool, true, false, cond, eqb, ◌⊎◌, List, [], ◌∷◌, ◌++◌, map, length, get_or, Some, None, sum_by, count_by, Option, sym, refl, ap, ◌∙◌, subst, inl, inr, ⊎_elim, arith}
+use Rattle.std.proofs.Common.{◌≡◌, ℕ, zero, suc, ◌+◌, ◌<◌, ◌≤◌, ◌⊎◌, List, [], ◌∷◌, ◌++◌, map, length, Some, None, sum_by, count_by, Option, sym, refl, ap, ◌∙◌, subst, inl, inr, ⊎_elim, arith}
 use Rattle.std.specs.List.{ContainsAt as Has, flat_map, AllByRecursion as All, range_with_len}
 use Rattle.std.proofs.lemmas.List.Sums.{sum_by-cons}
 use Rattle.std.proofs.ByRecursion.{has_append_left, has_append_right, all-has}
-use Rattle.std.proofs.lemmas.Bool.{cases_eq, cases_lt, eqb-true}
+use Rattle.std.proofs.lemmas.Bool.{cases_eq, cases_lt}
 use Rattle.words.specs.Grammar.{StreamTable, Stream}
 use Rattle.words.proofs.Saying.{none_some}
 use Rattle.model.specs.Tables.{Slot, count_of}
 use Rattle.model.specs.Rules.{nth}
 use Rattle.model.specs.Sound.{Distinct}
-use Rattle.model.specs.Loading.{slots_of, virtuals_of, bytes_of, TableAt, Loose, nowhere, nowhere_virtual, beyond, shared, Loosely, named, entered, Reached, root, onward, Astray, root_entered, entered_twice, named_twice, unreached, Strays, Lowest, Never}
-use Rattle.model.proofs.Lists.{distinct_count, one, one_same, one_other, some_same}
-use Rattle.model.proofs.LoadLists.{count_cons, nth_below, nth_there}
+use Rattle.model.specs.Loading.{slots_of, virtuals_of, bytes_of, Loose, nowhere, nowhere_virtual, beyond, shared, Loosely, named, entered, Reached, root, onward, Astray, root_entered, entered_twice, named_twice, unreached, Strays, Lowest, Never}
+use Rattle.model.proofs.Lists.{distinct_count, one_other}
+use Rattle.model.proofs.LoadLists.{count_cons, nth_below}
 use Rattle.model.proofs.LoadSame.{has_first, has_later, has_cases, has_none}
 use Rattle.model.proofs.LoadBack.{at_position}
 use Rattle.model.proofs.LoadFull.{counted_all, table_same}
-use Rattle.model.proofs.LoadWhole.{has_count}
 
 -- it is so or it is not
 abbrev pub Settled : Type 0 → Type 0

@@ -1,6 +1,6 @@
 -- Every list of words has an outcome: of finitely many places the first faulty one is found, or the model is made.
-use Rattle.std.proofs.Common.{◌≡◌, ℕ, zero, suc, ◌+◌, ◌*◌, ◌<◌, ◌≤◌, ◌⊎◌, List, [], ◌∷◌, ◌++◌, map, length, Some, None, Ok, Err, Option, Result, sym, refl, ap, ◌∙◌, subst, inl, inr, ⊎_elim, arith}
-use Rattle.std.specs.List.{ContainsAt as Has, flat_map, AllByRecursion as All, range_with_len}
+use Rattle.std.proofs.Common.{◌≡◌, ℕ, zero, suc, ◌+◌, ◌<◌, ◌≤◌, ◌⊎◌, List, [], ◌∷◌, ◌++◌, map, length, Some, None, Ok, Err, Option, Result, sym, refl, ap, ◌∙◌, subst, inl, inr, ⊎_elim, arith}
+use Rattle.std.specs.List.{ContainsAt as Has, flat_map, range_with_len}
 use Rattle.std.proofs.lemmas.List.{length-map}
 use Rattle.std.proofs.lemmas.List.FromFn.{length-range_with_len, get_or-range_with_len}
 use Rattle.std.proofs.ByRecursion.{has_append_left, has_append_right}
@@ -14,13 +14,13 @@ use Rattle.words.proofs.Saying.{none_some}
 use Rattle.words.proofs.Whole.{streams_spell_lem, misfits_tell_lem}
 use Rattle.coverage.specs.Meaning.{Meant}
 use Rattle.model.specs.Forest.{Ligature, LigatureSet, Subtable, Lookup, Model}
-use Rattle.model.specs.Tables.{Slot, slots_from, Table, head, lookup_table, subtable_table, set_table}
+use Rattle.model.specs.Tables.{slots_from, Table, head, lookup_table, subtable_table, set_table}
 use Rattle.model.specs.Splitting.{Capacities}
 use Rattle.model.specs.Rules.{nth}
-use Rattle.model.specs.Loading.{slots_of, virtuals_of, TableAt, Spelt, taken_by, short_of, Loosely, Never, Place, at_lookup, at_extension, at_subtable, at_coverage, at_set, at_ligature, path, Before, Kind, Stands, root, extension, plain, wrapped, coverage, set, ligature, Faulty, FirstFault, Loads, misfit, short, loose, astray, faulty, accepted}
+use Rattle.model.specs.Loading.{slots_of, TableAt, Spelt, taken_by, short_of, Loosely, Never, Place, at_lookup, at_extension, at_subtable, at_coverage, at_set, at_ligature, path, Before, Kind, Stands, root, extension, plain, wrapped, coverage, set, ligature, Faulty, FirstFault, Loads, misfit, short, loose, astray, faulty, accepted}
 use Rattle.model.specs.LoadingLaws.{OutcomesStand}
 use Rattle.model.proofs.LoadLists.{nth_below}
-use Rattle.model.proofs.LoadSame.{has_first, has_later, has_cases, has_none}
+use Rattle.model.proofs.LoadSame.{has_cases, has_none}
 use Rattle.model.proofs.LoadWalk.{compare}
 use Rattle.model.proofs.LoadWhole.{links_parted}
 use Rattle.model.proofs.LoadSought.{Settled, has_joined, has-map, loose_sought, strays_sought}

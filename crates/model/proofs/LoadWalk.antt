@@ -1,26 +1,18 @@
 -- The walk: at each place stands one vertex, of a loaded model the one that its tables have there; so nothing is refused, and refusals are unique.
-use Rattle.std.proofs.Common.{◌≡◌, ℕ, zero, suc, ◌+◌, ◌*◌, ◌<◌, ◌≤◌, Bool, true, false, cond, eqb, ◌⊎◌, List, [], ◌∷◌, ◌++◌, map, length, get_or, is_some, Some, None, Option, sym, refl, ap, ◌∙◌, subst, inl, inr, ⊎_elim, arith}
-use Rattle.std.specs.List.{ContainsAt as Has, flat_map, AllByRecursion as All}
-use Rattle.std.specs.Option.{option_to_list}
+use Rattle.std.proofs.Common.{◌≡◌, ℕ, zero, suc, ◌⊎◌, List, [], ◌∷◌, map, length, Some, Option, sym, refl, ap, ◌∙◌, subst, inl, inr, ⊎_elim, arith}
 use Rattle.std.proofs.lemmas.List.{length-map}
-use Rattle.std.proofs.lemmas.Bool.{cases_order, false≢true}
+use Rattle.std.proofs.lemmas.Bool.{cases_order}
 use Rattle.refusals.specs.declared.Refusal.{Refusal}
-use Rattle.refusals.specs.declared.Refusal.TheVariants.{BadShape, BadCoverage, Empty, BadVirtual, TooManySubtables}
 use Rattle.words.specs.Grammar.{StreamTable, Stream}
-use Rattle.words.proofs.Saying.{none_some}
-use Rattle.data_bytes.specs.Values.{value_bytes, values}
-use Rattle.data_bytes.proofs.ValueLists.{values_value_bytes}
 use Rattle.coverage.specs.Meaning.{Meant}
-use Rattle.model.specs.Forest.{Ligature, LigatureSet, Subtable, Lookup, Model}
-use Rattle.model.specs.Tables.{Table, Placed, zeros, head, head_or, lookup_table, extension_table, subtable_table, coverage_table, set_table, ligature_table, set_walk, extension_walk, subtable_walk, lookup_walk, model_walk}
+use Rattle.model.specs.Forest.{Ligature, LigatureSet, Subtable, Lookup}
+use Rattle.model.specs.Tables.{Table, head, lookup_table, extension_table, subtable_table, set_table}
 use Rattle.model.specs.Rules.{nth}
-use Rattle.model.specs.Sound.{GoodLigature, GoodSet, GoodSubtable, GoodLookup, Good, glyphs_meant}
-use Rattle.model.specs.Loading.{slots_of, virtuals_of, bytes_of, TableAt, Spelt, LookupShape, ExtensionShape, SubtableShape, SetShape, LigatureShape, CoverageShape, Place, at_lookup, at_extension, at_subtable, at_coverage, at_set, at_ligature, path, Before, Kind, is_lookup, is_extension, is_subtable, is_coverage, is_set, is_ligature, Stands, root, extension, plain, wrapped, coverage, set, ligature, Shaped, value_at, Few, Filled, Covered, virtuals_at, Fault, misshapen, crowded, bare, uncovered, untied, Faulty, FirstFault, Holds, Loaded}
-use Rattle.model.proofs.Lists.{all_parts_lem, joined_all, some_same, all-nth}
-use Rattle.model.proofs.LoadLists.{nth-map, nth_mapped}
+use Rattle.model.specs.Loading.{TableAt, Spelt, LookupShape, Place, at_lookup, at_extension, at_subtable, at_coverage, at_set, at_ligature, path, Before, Kind, is_lookup, is_extension, is_subtable, is_coverage, is_set, is_ligature, Stands, root, extension, plain, wrapped, coverage, set, ligature, Fault, misshapen, crowded, bare, uncovered, untied, Faulty, FirstFault}
+use Rattle.model.proofs.Lists.{some_same}
+use Rattle.model.proofs.LoadLists.{nth-map}
 use Rattle.model.proofs.LoadSame.{lookup_same, extension_same, subtable_same, set_same}
 use Rattle.model.proofs.LoadFull.{table_same}
-use Rattle.model.proofs.LoadBack.{kinds, Wrapped}
 
 -- ONE VERTEX AT A PLACE
 same_nth : {X : Type 0} (r : X → ℕ) (xs ys : List X) (k : ℕ) (x y : X) → map r xs ≡ map r ys → nth xs k ≡ Some x → nth ys k ≡ Some y → r x ≡ r y

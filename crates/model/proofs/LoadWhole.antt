@@ -1,7 +1,6 @@
 -- A model that is read off a stream's tables, of good lookups at the roots, is loaded from it if no vertex strays: each table of the stream stands in it just once.
-use Rattle.std.proofs.Common.{◌≡◌, ℕ, zero, suc, ◌+◌, ◌*◌, ◌<◌, ◌≤◌, Bool, true, false, cond, eqb, ◌⊎◌, List, [], ◌∷◌, ◌++◌, map, length, Some, None, sum_by, Option, sym, refl, ap, ◌∙◌, subst, inl, inr, ⊎_elim, add-mul, one-mul, mul-zero, zero-mul, mul-one, arith}
+use Rattle.std.proofs.Common.{◌≡◌, ℕ, zero, suc, ◌+◌, ◌*◌, ◌<◌, ◌≤◌, eqb, List, [], ◌∷◌, map, length, Some, None, sum_by, Option, sym, refl, ap, ◌∙◌, subst, ⊎_elim, add-mul, one-mul, mul-zero, zero-mul, mul-one, arith}
 use Rattle.std.specs.List.{ContainsAt as Has, AllByRecursion as All, range_with_len}
-use Rattle.std.specs.List.Sorted.{IsPermutation}
 use Rattle.std.proofs.lemmas.List.{length-append, length-map}
 use Rattle.std.proofs.lemmas.List.Sums.{sum_by-cons}
 use Rattle.std.proofs.ByRecursion.{All-map, All-weaker}
@@ -12,15 +11,15 @@ use Rattle.words.specs.Reading.{links_in, bytes_in}
 use Rattle.data_bytes.proofs.ValueLists.{length-value_bytes}
 use Rattle.coverage.specs.Meaning.{Meant}
 use Rattle.model.specs.Forest.{Lookup, Taken, Model}
-use Rattle.model.specs.Tables.{Slot, Table, Placed, model_walk, vertex_of, count_of, targets, links_of}
+use Rattle.model.specs.Tables.{Slot, Placed, model_walk, vertex_of, count_of, links_of}
 use Rattle.model.specs.Rules.{nth}
-use Rattle.model.specs.Sound.{GoodLookup, Good, Distinct}
-use Rattle.model.specs.Loading.{slots_of, virtuals_of, bytes_of, TableAt, Spelt, taken_by, named, entered, Reached, root, onward, root_entered, entered_twice, named_twice, unreached, Strays, Never, Holds, Loaded}
+use Rattle.model.specs.Sound.{GoodLookup, Distinct}
+use Rattle.model.specs.Loading.{slots_of, virtuals_of, Spelt, taken_by, named, entered, Reached, root, onward, root_entered, entered_twice, named_twice, unreached, Strays, Never, Holds, Loaded}
 use Rattle.model.specs.LoadingLaws.{ReadingsLoad}
 use Rattle.model.proofs.Lists.{one, one_same, one_other}
 use Rattle.model.proofs.LoadLists.{nth_below, sum_one, sum_zero}
 use Rattle.model.proofs.LoadSame.{has_none, has_cases}
-use Rattle.model.proofs.LoadFull.{into, shuffled_targets, sum_tables, sum_add, counted_all, walk_once}
+use Rattle.model.proofs.LoadFull.{into, shuffled_targets, sum_tables, sum_add, walk_once}
 use Rattle.model.proofs.NumberSums.{tally_sum, tally_same}
 
 -- MEMBERS COUNT

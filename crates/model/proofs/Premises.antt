@@ -1,5 +1,5 @@
 -- The worked cases meet the premise of the theorems: their models are well-formed.
-use Rattle.std.proofs.Common.{◌≡◌, ℕ, ◌<◌, ◌≤◌, List, [], ◌∷◌, length, get_or, Some, Option, refl, lit<, lit≤}
+use Rattle.std.proofs.Common.{◌≡◌, ℕ, ◌<◌, List, [], ◌∷◌, Some, Option, refl, lit<, lit≤}
 use Rattle.std.specs.List.{AllByRecursion as All}
 use Rattle.data_bytes.specs.BigEndian.{Bytes}
 use Rattle.coverage.specs.Glyphs.{is_glyph_list_of}

@@ -1,10 +1,9 @@
 -- A rule's answer points to a ligature of the subtable with the index answered.
-use Rattle.std.proofs.Common.{◌≡◌, ℕ, zero, suc, ◌+◌, List, [], ◌∷◌, ◌++◌, Some, None, Ok, Err, Option, Result, sym, refl, ap, ◌∙◌, subst, ⊎_elim, arith}
+use Rattle.std.proofs.Common.{◌≡◌, ℕ, suc, ◌+◌, List, [], ◌∷◌, Some, None, Ok, Option, sym, refl, ap, ◌∙◌, subst, ⊎_elim, arith}
 use Rattle.std.specs.List.{flat_map}
-use Rattle.refusals.specs.declared.Refusal.{Refusal}
-use Rattle.model.specs.Forest.{Ligature, LigatureSet, Subtable, Lookup, Model}
-use Rattle.model.specs.Rules.{Sourced, rule_of, sourced, sourced_set, sourced_from, sourced_rules, told, rule_in, rule, nth}
-use Rattle.model.specs.ShapingLaws.{StandsThere, RulesStandWhereTold}
+use Rattle.model.specs.Forest.{Ligature, LigatureSet, Subtable, Lookup}
+use Rattle.model.specs.Rules.{Sourced, sourced, sourced_set, sourced_from, sourced_rules, told, rule_in, nth}
+use Rattle.model.specs.ShapingLaws.{RulesStandWhereTold}
 use Rattle.model.proofs.Lists.{err_ok}
 use Rattle.model.proofs.Sources.{in_either, in_map, nowhere}
 

@@ -1,9 +1,9 @@
 -- Where a rule comes from: its ligature's table stands in the walk, and its bytes are those of its vertex.
-use Rattle.std.proofs.Common.{◌≡◌, ℕ, zero, suc, ◌+◌, ◌<◌, ◌≤◌, Bool, true, false, cond, eqb, ◌⊎◌, List, [], ◌∷◌, ◌++◌, map, length, Some, None, Option, sym, refl, ap, ◌∙◌, subst, inl, inr, ⊎_elim, arith}
+use Rattle.std.proofs.Common.{◌≡◌, ℕ, zero, suc, ◌<◌, cond, eqb, ◌⊎◌, List, [], ◌∷◌, ◌++◌, map, Some, None, Option, sym, refl, ap, ◌∙◌, subst, inl, inr, ⊎_elim, arith}
 use Rattle.std.proofs.lemmas.Bool.{eq-eqb, ne_eqb, cond-true, cond-false}
 use Rattle.std.specs.List.{flat_map}
 use Rattle.model.specs.Forest.{Ligature, LigatureSet, Subtable, Lookup, Model}
-use Rattle.model.specs.Tables.{Placed, vertex_of, count_of, ligature_table, set_table, set_walk, extension_walk, subtable_table, coverage_table, subtable_walk, lookup_table, lookup_walk, model_walk, bytes_at}
+use Rattle.model.specs.Tables.{Placed, vertex_of, count_of, ligature_table, set_walk, extension_walk, subtable_table, coverage_table, subtable_walk, lookup_walk, model_walk, bytes_at}
 use Rattle.model.specs.Rules.{Sourced, rule_of, sourced, sourced_set, sourced_from, sourced_rules, nth}
 use Rattle.model.specs.Sound.{Distinct}
 

@@ -1,5 +1,5 @@
 -- What is written is bytes: each value has two of them.
-use Rattle.std.proofs.Common.{◌≡◌, ℕ, suc, ◌+◌, ◌/◌, ◌%◌, ◌<◌, ◌≤◌, Bool, true, false, cond, eqb, List, [], ◌∷◌, ◌++◌, map, length, get_or, Some, None, Option, sym, refl, subst, arith}
+use Rattle.std.proofs.Common.{◌≡◌, ℕ, suc, ◌<◌, ◌≤◌, Bool, true, false, cond, eqb, List, [], ◌∷◌, ◌++◌, map, length, Some, None, Option, sym, refl, subst, arith}
 use Rattle.std.specs.List.{flat_map, AllByRecursion as All}
 use Rattle.std.specs.Option.{option_to_list}
 use Rattle.std.proofs.ByRecursion.{All-append, All-map, All-weaker, All-get_or, All-from_get_or}
@@ -11,7 +11,7 @@ use Rattle.data_bytes.proofs.Spellings.{bytes_spelled}
 use Rattle.coverage.specs.Meaning.{Meant}
 use Rattle.coverage.proofs.Lists.{listed}
 use Rattle.model.specs.Forest.{Ligature, LigatureSet, Subtable, Lookup}
-use Rattle.model.specs.Tables.{Placed, extension_bytes, lookup_table, extension_table, subtable_table, coverage_table, set_table, ligature_table, extension_walk}
+use Rattle.model.specs.Tables.{Placed, lookup_table, subtable_table, coverage_table, set_table, ligature_table, extension_walk}
 use Rattle.model.specs.Sound.{Lawful, Value, GoodLigature, GoodSet, GoodSubtable, GoodLookup, glyphs_meant}
 use Rattle.model.specs.Writing.{Start, starts_in, filled, subtable_order, extensions_of, write_order, overflows, written}
 use Rattle.model.proofs.Lists.{all_front, all_back, all_mapped, joined_all, all_joined, all_both, all_any, option_all}

@@ -1,17 +1,13 @@
 -- The rule book, the machine that a line of calls drives on models, and the law that their answers keep.
-use Rattle.std.specs.Prelude.{◌≡◌, ℕ, zero, suc, ◌+◌, ◌<◌, ◌≤◌, Bool, true, false, cond, List, [], ◌∷◌, ◌++◌, map, length, Some, None, Ok, Err, Option, Result, nat_le, slice_index}
-use Rattle.std.specs.List.{AllByRecursion as All}
+use Rattle.std.specs.Prelude.{ℕ, zero, suc, Bool, true, false, cond, List, [], ◌∷◌, ◌++◌, map, Some, None, Ok, Err, Option, Result, nat_le, slice_index}
 use Rattle.refusals.specs.declared.Refusal.{Refusal}
-use Rattle.refusals.specs.declared.Refusal.TheVariants.{NoLookup, NoRule, OffsetOverflow}
-use Rattle.data_bytes.specs.BigEndian.{Bytes}
+use Rattle.refusals.specs.declared.Refusal.TheVariants.{NoLookup, NoRule}
 use Rattle.coverage.specs.Meaning.{Meant}
-use Rattle.model.specs.Forest.{Subtable, Lookup, Model}
+use Rattle.model.specs.Forest.{Lookup, Model}
 use Rattle.model.specs.Rules.{Rule, Sourced, Shaped, rules_of, shape_by, shape, rule, nth}
-use Rattle.model.specs.Cutting.{subtable_size}
-use Rattle.model.specs.Splitting.{Capacities, Changed, split_lookup, split, wrap}
+use Rattle.model.specs.Splitting.{Capacities, Changed, split, wrap}
 use Rattle.model.specs.Writing.{write}
 use Rattle.model.specs.Reading.{read}
-use Rattle.model.specs.Sound.{glyphs_meant}
 
 -- CALLS AND ANSWERS
 pub data Call : Type 0 where

@@ -1,5 +1,5 @@
 -- Cutting a subtable at a ceiling: entries in order, the size of a run, the parts, and the rule that they follow.
-use Rattle.std.specs.Prelude.{◌≡◌, ℕ, suc, ◌+◌, ◌*◌, ◌<◌, ◌≤◌, Bool, true, false, cond, List, [], ◌∷◌, ◌++◌, map, length, sum_by, ◌==◌, nat_le, slice_index_or}
+use Rattle.std.specs.Prelude.{◌≡◌, ℕ, suc, ◌+◌, ◌*◌, ◌<◌, ◌≤◌, Bool, false, cond, List, [], ◌∷◌, ◌++◌, length, sum_by, ◌==◌, nat_le, slice_index_or}
 use Rattle.std.specs.List.{flat_map}
 use Rattle.model.specs.Forest.{Ligature, LigatureSet, Subtable}
 

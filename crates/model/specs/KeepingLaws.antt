@@ -1,12 +1,12 @@
 -- What splitting and wrapping keep: rules, shaping, sizes, well-formed lookups; and how many subtables are new.
-use Rattle.std.specs.Prelude.{◌≡◌, ℕ, ◌+◌, ◌≤◌, Bool, List, [], ◌∷◌, ◌++◌, map, length, Some, None, Ok, Err, Option, Result, ◌≢◌}
+use Rattle.std.specs.Prelude.{◌≡◌, ℕ, ◌+◌, ◌≤◌, Bool, List, ◌++◌, map, length, Some, None, Ok, Err, Option, Result, ◌≢◌}
 use Rattle.std.specs.List.{flat_map, AllByRecursion as All}
 use Rattle.refusals.specs.declared.Refusal.{Refusal}
 use Rattle.coverage.specs.Meaning.{Meant}
 use Rattle.model.specs.Forest.{Subtable, Lookup, Model}
 use Rattle.model.specs.Rules.{Rule, Sourced, nth, subtable_rules, rules_of, sourced_rules, shape, rule}
-use Rattle.model.specs.Cutting.{Entry, entries, parts, subtable_size}
-use Rattle.model.specs.Splitting.{Capacities, Changed, divided, after_divided, is_wrapped, split_lookup, split, wrap_lookup, wrap, all_cuts, subtables_after, first_long, subtable_limit, all_renewed, renewed_in}
+use Rattle.model.specs.Cutting.{entries, parts, subtable_size}
+use Rattle.model.specs.Splitting.{Capacities, Changed, divided, is_wrapped, split_lookup, split, wrap_lookup, wrap, all_cuts, subtables_after, first_long, subtable_limit, all_renewed, renewed_in}
 use Rattle.model.specs.Sound.{GoodSet, GoodLookup, glyphs_meant, WroteWell}
 
 -- RULES: a rule with the vertex of its ligature, in whatever subtable it stands

@@ -1,5 +1,5 @@
 -- THE LAW: for every line of calls behind an accepted load, each answer agrees with the rule book.
-use Rattle.std.specs.Prelude.{◌≡◌, ℕ, zero, suc, ◌+◌, ◌<◌, ◌≤◌, Bool, true, false, cond, List, [], ◌∷◌, ◌++◌, map, length, Some, None, Ok, Err, Option, Result, ◌≢◌}
+use Rattle.std.specs.Prelude.{◌≡◌, ℕ, suc, ◌≤◌, Bool, true, false, List, [], ◌∷◌, ◌++◌, length, Some, None, Ok, Err, Option, Result, ◌≢◌}
 use Rattle.std.specs.List.{AllByRecursion as All}
 use Rattle.refusals.specs.declared.Refusal.{Refusal}
 use Rattle.refusals.specs.declared.Refusal.TheVariants.{OffsetOverflow}
@@ -7,7 +7,7 @@ use Rattle.coverage.specs.Meaning.{Meant}
 use Rattle.data_bytes.specs.Values.{value_bytes}
 use Rattle.model.specs.Forest.{Subtable, Lookup, Model}
 use Rattle.model.specs.Tables.{part_of}
-use Rattle.model.specs.Rules.{Rule, Sourced, Shaped, shape_by, nth}
+use Rattle.model.specs.Rules.{Rule, shape_by, nth}
 use Rattle.model.specs.Cutting.{subtable_size}
 use Rattle.model.specs.Splitting.{Capacities, Changed, split, renewed_in}
 use Rattle.model.specs.Sound.{Good, WroteWell}

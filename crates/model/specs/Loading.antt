@@ -1,5 +1,5 @@
 -- The outcome of load, for every list of words: the refusals in the order in which they are tested, and the model of what is accepted.
-use Rattle.std.specs.Prelude.{◌≡◌, ℕ, zero, suc, ◌+◌, ◌*◌, ◌<◌, ◌≤◌, cond, ◌⊎◌, List, [], ◌∷◌, ◌++◌, map, length, is_some, Some, None, Ok, Err, sum_by, count_by, Option, Result, ◌==◌, ◌≢◌, nat_eq, slice_index}
+use Rattle.std.specs.Prelude.{◌≡◌, ℕ, suc, ◌+◌, ◌<◌, ◌≤◌, cond, ◌⊎◌, List, [], ◌∷◌, ◌++◌, map, length, is_some, Some, None, Ok, Err, sum_by, count_by, Option, Result, ◌==◌, ◌≢◌, nat_eq, slice_index}
 use Rattle.std.specs.List.{ContainsAt as Has, AllByRecursion as All, range_with_len}
 use Rattle.std.specs.List.Sorted.{IsPermutation}
 use Rattle.refusals.specs.declared.Pool.{Pool}

@@ -1,9 +1,9 @@
 -- Worked cases on sample S: one lookup of type 4 with one subtable, the set of 10 with two ligatures and the set of 20 with one.
-use Rattle.std.specs.Prelude.{◌≡◌, ℕ, ◌+◌, Bool, true, false, cond, List, [], ◌∷◌, map, length, Some, None, Ok, Err, Option, Result, ◌==◌}
+use Rattle.std.specs.Prelude.{◌≡◌, ℕ, cond, List, [], ◌∷◌, map, Some, None, Ok, Err, Option, Result, ◌==◌}
 use Rattle.refusals.specs.declared.Refusal.{Refusal}
 use Rattle.refusals.specs.declared.Refusal.TheVariants.{BadCeiling, LongLigature}
 use Rattle.coverage_list.specs.Format1.{array_bytes}
-use Rattle.model.specs.Forest.{Ligature, LigatureSet, Subtable, Lookup, Taken, Model}
+use Rattle.model.specs.Forest.{Ligature, LigatureSet, Subtable, Lookup, Model}
 use Rattle.model.specs.Rules.{Shaped, Sourced, sourced_rules, shape}
 use Rattle.model.specs.Cutting.{Cut, cuts, subtable_size}
 use Rattle.model.specs.Book.{Call, do_split, do_wrap, do_write, do_shape, do_rule, do_read, Desk}

@@ -1,15 +1,14 @@
 -- A second worked case: two lookups; the first of type 7 with a mark filtering set and two subtables, one with a coverage of four glyphs in a run and a set that is cut twice at 18.
 -- The expected bytes were made by a separate script from the rules, not by these definitions.
-use Rattle.std.specs.Prelude.{◌≡◌, ℕ, ◌+◌, Bool, true, false, cond, List, [], ◌∷◌, map, length, Some, None, Ok, Err, sum_by, Option, Result, ◌==◌}
-use Rattle.refusals.specs.declared.Refusal.{Refusal}
-use Rattle.refusals.specs.declared.Refusal.TheVariants.{IsExtension, NoLookup, NoRule}
+use Rattle.std.specs.Prelude.{◌≡◌, ℕ, ◌+◌, false, cond, List, [], ◌∷◌, map, Some, None, Ok, sum_by, Option, ◌==◌}
+use Rattle.refusals.specs.declared.Refusal.TheVariants.{IsExtension, NoLookup}
 use Rattle.data_bytes.specs.Values.{value_bytes}
 use Rattle.coverage.specs.Meaning.{Meant}
-use Rattle.model.specs.Forest.{Ligature, LigatureSet, Subtable, Lookup, Taken, Model}
-use Rattle.model.specs.Tables.{Placed, vertex_of, lookup_walk, model_walk, links_of}
-use Rattle.model.specs.Rules.{Shaped, Sourced, rules_of, shape, rule}
-use Rattle.model.specs.Cutting.{Cut, cuts, subtable_size}
-use Rattle.model.specs.Splitting.{Capacities, Changed, Bill, split_bill, split_lookup, split, wrap, wrap_lookup}
+use Rattle.model.specs.Forest.{Subtable, Lookup, Model}
+use Rattle.model.specs.Tables.{vertex_of, lookup_walk, links_of}
+use Rattle.model.specs.Rules.{rules_of, shape}
+use Rattle.model.specs.Cutting.{cuts, subtable_size}
+use Rattle.model.specs.Splitting.{split_bill, split_lookup, split, wrap}
 use Rattle.model.specs.Writing.{written, overflows, written_size}
 use Rattle.model.specs.Reading.{rules_in, read}
 use Rattle.model.specs.Samples.{ligature, ligature_set, cut, bill, ample, at, refused_with}

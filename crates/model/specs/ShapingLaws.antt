@@ -1,8 +1,8 @@
 -- What shaping gives, in the words of the subject: the first rule, in order, with whose glyphs the string goes on at the place. And where a rule's answer points to.
-use Rattle.std.specs.Prelude.{◌≡◌, ℕ, ◌<◌, true, false, List, ◌∷◌, ◌++◌, length, Some, Ok}
+use Rattle.std.specs.Prelude.{◌≡◌, ℕ, ◌<◌, List, ◌∷◌, ◌++◌, length, Some, Ok}
 use Rattle.std.specs.List.{AllByRecursion as All}
 use Rattle.model.specs.Forest.{Ligature, LigatureSet, Subtable, Lookup, Model}
-use Rattle.model.specs.Rules.{Rule, stands, Shaped, unshaped, first_rule, shape_by, Sourced, rule_of, nth, rule}
+use Rattle.model.specs.Rules.{Rule, unshaped, first_rule, shape_by, Sourced, rule_of, nth, rule}
 
 -- the string begins with the glyphs of the rule
 abbrev pub Begins : List ℕ → Rule → Type 0

@@ -1,11 +1,11 @@
 -- Well-formed models, under a codec's meaning: what load shows of a graph, and what every call keeps.
-use Rattle.std.specs.Prelude.{◌≡◌, ℕ, suc, ◌+◌, ◌*◌, ◌%◌, ◌<◌, ◌≤◌, Bool, true, false, cond, List, [], ◌∷◌, ◌++◌, map, length, take, is_some, IfSome, Some, None, sum_by, Option, ◌==◌}
+use Rattle.std.specs.Prelude.{◌≡◌, ℕ, suc, ◌+◌, ◌*◌, ◌%◌, ◌<◌, ◌≤◌, true, false, cond, List, [], ◌∷◌, ◌++◌, map, length, take, is_some, IfSome, Some, sum_by, Option, ◌==◌}
 use Rattle.std.specs.List.{AllByRecursion as All}
 use Rattle.data_bytes.specs.BigEndian.{Bytes}
 use Rattle.coverage.specs.Glyphs.{GlyphList}
 use Rattle.coverage.specs.Meaning.{Meant}
 use Rattle.model.specs.Forest.{Ligature, LigatureSet, Subtable, Lookup, Model}
-use Rattle.model.specs.Tables.{Placed, Table, model_walk, vertex_of, count_of, links_of}
+use Rattle.model.specs.Tables.{Placed, model_walk, vertex_of, count_of, links_of}
 use Rattle.model.specs.Reading.{has_mark}
 use Rattle.model.specs.Splitting.{subtable_limit}
 

@@ -1,5 +1,5 @@
 -- Splitting and wrapping: the pieces of a subtable, which set vertex goes where, new vertex numbers, what is taken from the pools, refusals.
-use Rattle.std.specs.Prelude.{◌≡◌, ℕ, zero, suc, ◌+◌, ◌-◌, ◌*◌, ◌<◌, ◌≤◌, min, Bool, true, false, cond, not, ◌&&◌, ◌||◌, List, [], ◌∷◌, ◌++◌, map, length, set, Some, None, Ok, Err, sum_by, Option, Result, ◌==◌, nat_le}
+use Rattle.std.specs.Prelude.{ℕ, suc, ◌+◌, ◌*◌, min, Bool, true, false, cond, not, ◌&&◌, ◌||◌, List, [], ◌∷◌, ◌++◌, length, set, Some, None, Ok, Err, sum_by, Option, Result, ◌==◌, nat_le}
 use Rattle.std.specs.List.{flat_map}
 use Rattle.refusals.specs.declared.Pool.{Pool}
 use Rattle.refusals.specs.declared.Pool.TheVariants.{Vertices, Links, Bytes}

@@ -1,5 +1,5 @@
 -- Where a wrap's bytes lie: one part for each extension table, in order, and together what the bill says.
-use Rattle.std.specs.Prelude.{◌≡◌, ℕ, List, map, Some, sum_by, Option}
+use Rattle.std.specs.Prelude.{◌≡◌, ℕ, map, Some, sum_by}
 use Rattle.std.specs.List.{AllByRecursion as All}
 use Rattle.model.specs.Forest.{Subtable, Lookup}
 use Rattle.model.specs.Splitting.{Part, wrap_parts, wrap_bill, wrap_lookup}

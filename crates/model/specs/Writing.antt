@@ -1,11 +1,11 @@
 -- Written lookups: the order of tables, their starts, offsets in the slots, the bytes; write's refusals.
-use Rattle.std.specs.Prelude.{◌≡◌, ℕ, zero, suc, ◌+◌, ◌-◌, ◌*◌, ◌<◌, ◌≤◌, Bool, true, false, cond, ◌&&◌, ◌||◌, List, [], ◌∷◌, ◌++◌, map, length, Some, None, Ok, Err, sum_by, Option, Result, ◌==◌, nat_le, nat_lt}
+use Rattle.std.specs.Prelude.{ℕ, ◌+◌, ◌-◌, Bool, false, cond, ◌&&◌, ◌||◌, List, [], ◌∷◌, ◌++◌, map, length, Some, None, Ok, Err, sum_by, Option, Result, ◌==◌, nat_le, nat_lt}
 use Rattle.std.specs.List.{flat_map}
 use Rattle.refusals.specs.declared.Refusal.{Refusal}
 use Rattle.refusals.specs.declared.Refusal.TheVariants.{NoLookup, OffsetOverflow, ShortBuffer}
 use Rattle.data_bytes.specs.BigEndian.{put_at}
-use Rattle.model.specs.Forest.{Ligature, LigatureSet, Subtable, Lookup, Model}
-use Rattle.model.specs.Tables.{Slot, Table, Placed, lookup_table, extension_walk, subtable_table, coverage_table, set_table, ligature_table}
+use Rattle.model.specs.Forest.{LigatureSet, Subtable, Lookup, Model}
+use Rattle.model.specs.Tables.{Slot, Placed, lookup_table, extension_walk, subtable_table, coverage_table, set_table, ligature_table}
 use Rattle.model.specs.Rules.{nth}
 
 -- the lookup, the extension tables, then each subtable: itself, its sets, its ligatures set by set, its coverage

@@ -1,14 +1,13 @@
 -- The walk place by place: what is clear before a place that passes its tests is clear before the next.
-use Rattle.std.proofs.Common.{◌≡◌, ℕ, zero, suc, ◌+◌, ◌<◌, ◌≤◌, ◌⊎◌, List, [], ◌∷◌, ◌++◌, map, length, get_or, Some, None, Option, sym, refl, ap, ◌∙◌, subst, inl, inr, ⊎_elim, arith}
-use Rattle.refusals.specs.declared.Refusal.{Refusal}
+use Rattle.std.proofs.Common.{◌≡◌, ℕ, suc, ◌<◌, ◌≤◌, List, [], ◌∷◌, ◌++◌, length, get_or, Some, Option, sym, ap, subst, arith}
 use Rattle.words.specs.Grammar.{StreamTable, Stream}
 use Rattle.coverage.specs.Meaning.{Meant}
 use Rattle.model.specs.Forest.{Ligature, LigatureSet, Subtable, Lookup}
 use Rattle.model.specs.Tables.{head, lookup_table, subtable_table, set_table}
 use Rattle.model.specs.Rules.{nth}
-use Rattle.model.specs.Loading.{TableAt, LookupShape, SubtableShape, SetShape, Place, at_lookup, at_extension, at_subtable, at_coverage, at_set, at_ligature, path, Before, Kind, is_lookup, is_extension, is_subtable, is_coverage, is_set, is_ligature, Stands, root, extension, plain, wrapped, coverage, set, ligature, Fault, Faulty, FirstFault}
+use Rattle.model.specs.Loading.{TableAt, LookupShape, SubtableShape, SetShape, Place, at_lookup, at_extension, at_subtable, at_coverage, at_set, at_ligature, path, Kind, is_lookup, is_extension, is_subtable, is_coverage, is_set, is_ligature, Stands, root, extension, plain, wrapped, coverage, set, ligature, Fault, Faulty}
 use Rattle.model.proofs.LoadLists.{nth_below}
-use Rattle.model.proofs.LoadSame.{SameLookup, lookup_same, subtable_same, set_same}
+use Rattle.model.proofs.LoadSame.{lookup_same, subtable_same, set_same}
 use Rattle.model.proofs.LoadFull.{table_same}
 use Rattle.model.proofs.LoadWalk.{path_same, shared_table, roots_same, stands_same, same_length}
 use Rattle.model.proofs.LoadOwned.{Passes, passed}

@@ -1,5 +1,5 @@
 -- What has been counted and what is still to come make up what the whole stream has.
-use Rattle.std.proofs.Common.{◌≡◌, ℕ, zero, suc, ◌+◌, ◌*◌, ◌<◌, ◌≤◌, List, [], ◌∷◌, length, get_or, drop, Some, None, Ok, Err, Option, Result, sym, refl, ap, ◌∙◌, subst, add-zero, arith}
+use Rattle.std.proofs.Common.{◌≡◌, ℕ, ◌+◌, ◌*◌, ◌<◌, ◌≤◌, List, ◌∷◌, length, get_or, drop, Some, None, Ok, Err, Option, Result, sym, refl, ap, ◌∙◌, subst, add-zero, arith}
 use Rattle.std.proofs.lemmas.List.{at_drop_more, at_drop_all}
 use Rattle.std.specs.Option.{ok_or}
 use Rattle.refusals.specs.declared.Refusal.{Refusal}
@@ -12,7 +12,7 @@ use Rattle.words.specs.declared.Place.TheVariants.{Start, Inside, Linking, Rooti
 use Rattle.words.specs.declared.StreamCounts.{StreamCounts}
 use Rattle.words.specs.declared.Reading.{Reading}
 use Rattle.words.specs.Words.{token_of}
-use Rattle.words.specs.Reading.{Rest, rest, nothing, place_after, next_place, tables_with, word_then, further, onward, onward_to, at_end, read, stream_of, parse, links_in, bytes_in, counts_of, scanned_as, scanned, counted, stepped_to, stepped_by, stepped}
+use Rattle.words.specs.Reading.{Rest, nothing, place_after, next_place, tables_with, word_then, further, onward, onward_to, at_end, read, stream_of, parse, links_in, bytes_in, scanned_as, scanned, counted, stepped_to, stepped_by, stepped}
 use Rattle.words.proofs.Saying.{none_some}
 use Rattle.words.specs.Grammar.{Stream}
 use Rattle.words.specs.Laws.{Tells}

@@ -1,5 +1,5 @@
 -- What one word does to what is still to come: a word that fits can be put in front of it, and what is to come begins with a word that fits.
-use Rattle.std.proofs.Common.{◌≡◌, ℕ, zero, suc, ◌+◌, ◌*◌, ◌/◌, ◌%◌, ◌^◌, ◌<◌, ◌≤◌, Bool, true, false, cond, ◌&&◌, eqb, ltb, List, [], ◌∷◌, ◌++◌, map, length, drop, Some, None, Option, sym, refl, ap, ◌∙◌, subst, ⊎_elim, append_assoc, add-zero, arith}
+use Rattle.std.proofs.Common.{◌≡◌, ℕ, zero, suc, ◌+◌, ◌*◌, ◌/◌, ◌%◌, ◌^◌, ◌<◌, Bool, true, eqb, ltb, List, [], ◌∷◌, ◌++◌, map, length, drop, Some, None, Option, sym, refl, ap, ◌∙◌, subst, append_assoc, add-zero, arith}
 use Rattle.std.specs.List.{flat_map, AllByRecursion as All}
 use Rattle.std.proofs.lemmas.List.{nil_from_length}
 use Rattle.std.proofs.lemmas.Bool.{eqb-true, eq-eqb, ltb-true, lt-ltb, cond_both, cond-true, and_from}
@@ -12,7 +12,7 @@ use Rattle.words.specs.declared.Place.{Place}
 use Rattle.words.specs.declared.Place.TheVariants.{Start, Inside, Linking, Rooting, Closed}
 use Rattle.words.specs.Words.{room_of}
 use Rattle.words.specs.Grammar.{StreamLink, real, virtual, StreamTable, say, link_kind, link_tokens, table_tokens, FineLink, FineTable}
-use Rattle.words.specs.Reading.{Rest, rest, nothing, linkable, openable, closable, if_so, place_after, tables_with, word_then}
+use Rattle.words.specs.Reading.{Rest, rest, nothing, openable, closable, if_so, place_after, tables_with, word_then}
 use Rattle.words.proofs.Saying.{cons_nil}
 
 -- the spelling of what is still to come, n tables having begun

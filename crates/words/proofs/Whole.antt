@@ -1,21 +1,20 @@
 -- Reading whole lists of words: what is accepted, what is refused, and where.
-use Rattle.std.proofs.Common.{◌≡◌, ℕ, zero, suc, ◌+◌, ◌*◌, ◌^◌, ◌<◌, ◌≤◌, ◌⊎◌, List, [], ◌∷◌, ◌++◌, map, length, take, drop, replicate, Some, None, Ok, Err, Option, Result, sym, refl, ap, ◌∙◌, subst, inl, inr, ⊎_elim, zero-add, arith}
+use Rattle.std.proofs.Common.{◌≡◌, ℕ, zero, suc, ◌+◌, ◌^◌, ◌<◌, ◌≤◌, ◌⊎◌, List, [], ◌∷◌, ◌++◌, map, length, take, drop, replicate, Some, None, Ok, Err, Option, Result, sym, refl, ap, ◌∙◌, subst, inl, inr, ⊎_elim, zero-add, arith}
 use Rattle.std.specs.List.{flat_map, AllByRecursion as All}
 use Rattle.std.proofs.lemmas.List.{take-append-drop, length-take-le, length-replicate}
 use Rattle.std.proofs.ByRecursion.{All-append, All-weaker, All-map}
 use Rattle.std.proofs.lemmas.Bool.{cases_lt}
-use Rattle.words.specs.declared.WordKind.{WordKind}
-use Rattle.words.specs.declared.WordKind.TheVariants.{Table, Value, Link2, Link4, Target, Virtual, Root, Count}
+use Rattle.words.specs.declared.WordKind.TheVariants.{Value, Root, Count}
 use Rattle.words.specs.declared.Width.TheVariants.{Two, Four}
 use Rattle.words.specs.declared.Token.{Token}
 use Rattle.words.specs.declared.Place.{Place}
 use Rattle.words.specs.declared.Place.TheVariants.{Start, Inside, Linking, Rooting, Closed}
-use Rattle.words.specs.Words.{Fits, word_of, token_of}
-use Rattle.words.specs.Grammar.{StreamLink, real, virtual, StreamTable, Stream, say, link_tokens, table_tokens, tokens, FineLink, FineTable, Uncounted, Fine, Spells, Wellformed, Front, Misfit}
-use Rattle.words.specs.Reading.{Rest, rest, nothing, place_after, next_place, tables_with, word_then, further, onward, onward_to, at_end, read, stream_of, parse}
+use Rattle.words.specs.Words.{Fits, token_of}
+use Rattle.words.specs.Grammar.{StreamLink, real, virtual, StreamTable, Stream, say, link_tokens, table_tokens, tokens, FineLink, FineTable, Uncounted, Fine, Spells, Front, Misfit}
+use Rattle.words.specs.Reading.{Rest, rest, nothing, next_place, tables_with, word_then, further, onward, onward_to, at_end, read, stream_of, parse}
 use Rattle.words.specs.Laws.{StreamsSpell, MisfitsTell}
 use Rattle.words.proofs.Saying.{cons_nil, says, all_say, all_said}
-use Rattle.words.proofs.Steps.{body, render, Shape, Good, Sizes, Sized, Counted, Before, Leads, leads, Move, Moves, moves}
+use Rattle.words.proofs.Steps.{render, Shape, Good, Sizes, Sized, Counted, Leads, leads, Move, Moves, moves}
 
 -- WHAT IS READ
 -- the words are the front of what can be to come

@@ -1,5 +1,5 @@
 -- Streams worked by hand: one lookup with one ligature subtable, and the ways in which a word does not fit.
-use Rattle.std.specs.Prelude.{◌≡◌, ℕ, List, [], ◌∷◌, Ok, Err, Result}
+use Rattle.std.specs.Prelude.{◌≡◌, ℕ, List, [], ◌∷◌, Ok, Err}
 use Rattle.words.specs.declared.Width.TheVariants.{Two}
 use Rattle.words.specs.declared.StreamCounts.{StreamCounts}
 use Rattle.words.specs.Grammar.{StreamLink, real, virtual, StreamTable, Stream}

@@ -1,4 +1,4 @@
-use Rattle.std.proofs.Common.{◌≡◌, cond, List, [], ◌∷◌, ◌++◌, string_bytes, codes, refl, ap, ◌∙◌}
+use Rattle.std.proofs.Common.{string_bytes, codes, refl, ◌∙◌}
 use Rattle.std.proofs.lemmas.Slice.{pushed}
 use Rattle.cover_text.specs.Text.{range_text_of}
 use Rattle.cover_text.proofs.Printing.{two_parts}

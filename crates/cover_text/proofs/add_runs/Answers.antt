@@ -1,4 +1,4 @@
-use Rattle.std.proofs.Common.{◌≡◌, ℕ, ◌+◌, ◌<◌, List, ◌++◌, get_or, drop, string_bytes, refl, ap, arith}
+use Rattle.std.proofs.Common.{◌≡◌, ◌++◌, get_or, string_bytes, refl, ap, arith}
 use Rattle.std.proofs.lemmas.Result.{IfOk-weaker}
 use Rattle.cover_text.specs.Text.{runs_text, spaced_range}
 use Rattle.coverage_opentype.specs.Unbroken.{run}

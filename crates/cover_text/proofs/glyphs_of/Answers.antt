@@ -1,4 +1,3 @@
-use Rattle.std.proofs.Common.{◌≡◌}
 use Rattle.coverage_opentype.specs.OpenType.{open_type_meaning}
 use Rattle.cover_text.proofs.Calls.{copied_ok, copied_back}
 use Rattle.cover_text.proofs.glyphs_of.Goals as goal

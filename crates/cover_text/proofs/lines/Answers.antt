@@ -1,4 +1,4 @@
-use Rattle.std.proofs.Common.{◌≡◌, ℕ, List, ◌++◌, Some, string_bytes, codes, ◌∙◌, arith}
+use Rattle.std.proofs.Common.{◌≡◌, ◌++◌, Some, string_bytes, codes, ◌∙◌, arith}
 use Rattle.std.proofs.lemmas.Result.{IfOk-weaker}
 use Rattle.coverage_list.specs.Format1.{array_bytes}
 use Rattle.coverage_opentype.specs.OpenType.{open_type_bytes}

@@ -1,4 +1,3 @@
-use Rattle.std.proofs.Common.{◌≡◌}
 use Rattle.coverage_list.specs.Format1.{array_bytes, array_span}
 use Rattle.coverage_list.specs.Arrays.{length-array_bytes}
 use Rattle.cover_text.proofs.Calls.{wrote}

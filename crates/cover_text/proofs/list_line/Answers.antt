@@ -1,6 +1,6 @@
 use Rattle.std.proofs.Common.{◌≡◌, ◌++◌, string_bytes, codes, ap, ◌∙◌}
 use Rattle.std.proofs.lemmas.Result.{IfOk-weaker}
-use Rattle.cover_text.specs.Text.{newline, reading, reading_text_of, list_line_of}
+use Rattle.cover_text.specs.Text.{newline, reading_text_of, list_line_of}
 use Rattle.cover_text.proofs.list_line.Goals as goal
 
 pub returns : goal.returns

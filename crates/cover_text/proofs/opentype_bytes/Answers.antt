@@ -1,4 +1,3 @@
-use Rattle.std.proofs.Common.{◌≡◌}
 use Rattle.coverage_opentype.specs.OpenType.{open_type_bytes, open_type_span}
 use Rattle.coverage_opentype.specs.Choosing.{length-open_type_bytes}
 use Rattle.cover_text.proofs.Calls.{wrote}

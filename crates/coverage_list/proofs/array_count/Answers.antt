@@ -2,7 +2,6 @@ use Rattle.std.proofs.Common.{sym, arith}
 use Rattle.coverage.proofs.Lists.{listed}
 use Rattle.data_bytes.proofs.ValueLists.{length-values_at}
 use Rattle.data_bytes.specs.BigEndian.{word16}
-use Rattle.coverage_list.specs.Format1.{array_glyphs}
 use Rattle.coverage_list.specs.Arrays.{count_some, count_none, count_falls}
 use Rattle.coverage_list.proofs.array_count.Goals as goal
 

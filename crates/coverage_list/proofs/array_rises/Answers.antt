@@ -1,4 +1,4 @@
-use Rattle.std.proofs.Common.{sym, ◌∙◌, subst, arith}
+use Rattle.std.proofs.Common.{sym, ◌∙◌, arith}
 use Rattle.data_bytes.specs.Values.{values_at}
 use Rattle.data_bytes.proofs.ValueLists.{length-values_at, get_d_values_at}
 use Rattle.coverage.proofs.Lists.{walk_first, walk_on, walk_stop, walk_end}

@@ -1,4 +1,4 @@
-use Rattle.std.proofs.Common.{◌≡◌, length, sym, ap, ◌∙◌, arith}
+use Rattle.std.proofs.Common.{sym, ap, ◌∙◌, arith}
 use Rattle.coverage_list.specs.Arrays.{laid_to, laid_start, laid_over, laid_more, laid_all}
 use Rattle.coverage_list.proofs.write_array.Goals as goal
 

@@ -1,4 +1,4 @@
-use Rattle.std.proofs.Common.{◌≡◌, ◌≤◌, ◌&&◌, length, drop}
+use Rattle.std.proofs.Common.{◌≡◌, ◌&&◌, drop}
 use Rattle.coverage.specs.Glyphs.{above, rises, small}
 use Rattle.coverage.proofs.glyphs.rise.Given as goal
 

@@ -1,4 +1,4 @@
-use Rattle.std.proofs.Common.{sym, ap, ◌∙◌, arith, rules}
+use Rattle.std.proofs.Common.{sym, ap, rules}
 use Rattle.coverage.specs.Meaning.{ended}
 use Rattle.coverage_list.specs.Arrays.{counted_says}
 use Rattle.coverage_list.proofs.ListCodecCoverageCodec.end.Goals as goal

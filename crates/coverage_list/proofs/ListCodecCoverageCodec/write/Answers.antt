@@ -1,4 +1,4 @@
-use Rattle.std.proofs.Common.{refl, inl, inr, arith}
+use Rattle.std.proofs.Common.{refl, inr, arith}
 use Rattle.coverage.proofs.Lists.{listed}
 use Rattle.coverage_list.specs.Arrays.{wrote, wrote_means, wrote_no_space}
 use Rattle.coverage_list.proofs.ListCodecCoverageCodec.write.Goals as goal

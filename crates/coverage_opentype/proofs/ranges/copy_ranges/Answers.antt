@@ -1,4 +1,4 @@
-use Rattle.std.proofs.Common.{◌≡◌, ◌++◌, length, take, drop, sym, ap, ◌∙◌, arith}
+use Rattle.std.proofs.Common.{◌++◌, length, take, drop, sym, ap, ◌∙◌, arith}
 use Rattle.std.proofs.lemmas.List.{take_all}
 use Rattle.coverage_opentype.specs.Format2.{covers, covered, range_at_of, ranges_at}
 use Rattle.coverage_opentype.specs.Covering.{order, length-ranges_at, r_read, r_index, r_goes, r_within, r_covers, copied_more}

@@ -1,4 +1,4 @@
-use Rattle.std.proofs.Common.{sym, refl, ◌∙◌, arith}
+use Rattle.std.proofs.Common.{refl, ◌∙◌, arith}
 use Rattle.coverage.proofs.Lists.{no_list, list_by_rise, walk_first, walk_on, walk_stop, walk_end}
 use Rattle.coverage_opentype.specs.Unbroken.{breaks_none, breaks_more, breaks_end, runs_counted}
 use Rattle.coverage_opentype.proofs.ranges.run_count.Goals as goal

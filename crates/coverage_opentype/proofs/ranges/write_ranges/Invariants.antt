@@ -1,4 +1,3 @@
-use Rattle.std.proofs.Common.{◌≡◌}
 use Rattle.coverage_opentype.specs.Rendering.{WrittenTo}
 use Rattle.coverage_opentype.proofs.ranges.write_ranges.Given as goal
 

@@ -1,4 +1,4 @@
-use Rattle.std.proofs.Common.{◌≡◌, ℕ, List, [], ◌∷◌, Ok, Err, Result, refl, arith, lit<}
+use Rattle.std.proofs.Common.{◌≡◌, ℕ, [], ◌∷◌, Ok, Err, Result, refl, arith, lit<}
 use Rattle.coverage.specs.Glyphs.{is_glyph_list_of}
 use Rattle.coverage_list.specs.Format1.{is_array, array_meaning, array_bytes, array_span}
 use Rattle.coverage_opentype.specs.Format2.{in_order, is_ranges, range_meaning}

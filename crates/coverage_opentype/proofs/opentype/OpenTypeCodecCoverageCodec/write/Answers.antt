@@ -1,6 +1,5 @@
-use Rattle.std.proofs.Common.{◌≡◌, length, sym, refl, ap, subst, inr, arith}
+use Rattle.std.proofs.Common.{length, refl, subst, inr, arith}
 use Rattle.coverage.proofs.Lists.{listed}
-use Rattle.coverage_opentype.specs.declared.opentype.Layout.{Layout}
 use Rattle.coverage_opentype.specs.Format2.{runs}
 use Rattle.coverage_opentype.specs.Planning.{Shorter}
 use Rattle.coverage_opentype.specs.Choosing.{size_array, wrote_ranges, wrote_array, fixed_ranges, fixed_array, wrote, wrote_no_space}
