@@ -1,6 +1,6 @@
 -- What memory holds, a reader of its used part is shown.
 use Rattle.std.proofs.Common.{◌≡◌, ◌<◌, ◌≤◌, List, [], ◌∷◌, length, take, ap, ◌∙◌, subst, arith, length-append}
-use Rattle.std.specs.List.{flat_map, AllByRecursion as All}
+use Rattle.std.specs.List.{flat_map, AllByRecursion}
 use Rattle.std.proofs.lemmas.List.{length-take-le, get_or-take}
 use Rattle.model.specs.Forest.{Lookup, Model}
 use Rattle.model.specs.Tables.{Placed, lookup_walk, model_walk}
@@ -16,7 +16,7 @@ lookups_few : (ls : List Lookup) → length ls ≤ length (flat_map lookup_walk 
 lookups_few [] = omega arith
 lookups_few (l ∷ ls) = let a = lookups_few ls in let b = length-append (lookup_walk l) (flat_map lookup_walk ls) in omega arith
 
-both : {X : Type 0} (P Q R : X → Type 0) → ((x : X) → P x → Q x → R x) → (xs : List X) → All P xs → All Q xs → All R xs
+both : {X : Type 0} (P Q R : X → Type 0) → ((x : X) → P x → Q x → R x) → (xs : List X) → AllByRecursion P xs → AllByRecursion Q xs → AllByRecursion R xs
 both P Q R f [] p q = tt
 both P Q R f (x ∷ xs) p q = (f x p.0 q.0, both P Q R f xs p.1 q.1)
 

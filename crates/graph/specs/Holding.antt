@@ -1,6 +1,6 @@
 -- What it is for lent memory to hold a model: every row and byte of it, used and spare.
 use Rattle.std.specs.Prelude.{◌≡◌, ℕ, zero, suc, ◌+◌, ◌-◌, ◌<◌, ◌≤◌, true, false, cond, ◌⊎◌, List, [], ◌∷◌, ◌++◌, map, length, take, drop, replicate, is_some, ◌==◌}
-use Rattle.std.specs.List.{flat_map, AllByRecursion as All, range_with_len}
+use Rattle.std.specs.List.{flat_map, AllByRecursion, range_with_len}
 use Rattle.rows.specs.declared.LinkRow.{LinkRow}
 use Rattle.rows.specs.declared.ParentRow.{ParentRow}
 use Rattle.rows.specs.Kinds.{zero_link, zero_parent}
@@ -74,16 +74,16 @@ vertex_row m a v =
 
 -- LOOKUPS: extension tables just where the type is 7; a mark filtering set just where the flag asks for one; not too many subtables
 pub record PlainLookup (l : Lookup) : Type 0 where
-  pub kind : cond (l.kind == 7) (All (λ (s : Subtable). is_some s.extension ≡ true) l.subtables) ((l.kind ≡ 4) × All (λ (s : Subtable). is_some s.extension ≡ false) l.subtables)
+  pub kind : cond (l.kind == 7) (AllByRecursion (λ (s : Subtable). is_some s.extension ≡ true) l.subtables) ((l.kind ≡ 4) × AllByRecursion (λ (s : Subtable). is_some s.extension ≡ false) l.subtables)
   pub asks : is_some l.mark ≡ has_mark l.flag
   pub count : length l.subtables ≤ subtable_limit
 
 -- SHOWING: what a reader of the used memory finds, wherever parts lie
 pub record Shows (m : Memory) (count : ℕ) (l : Model) : Type 0 where
   pub lookups : count ≡ length l.lookups
-  pub plain : All PlainLookup l.lookups
+  pub plain : AllByRecursion PlainLookup l.lookups
   pub roots : (i : ℕ) → i < count → (i < length m.vertices) × ((vertex_at m.vertices i).lookup ≡ root_at l.lookups i)
-  pub tables : All (λ (p : Placed). Bears m p.vertex p.table) (model_walk l)
+  pub tables : AllByRecursion (λ (p : Placed). Bears m p.vertex p.table) (model_walk l)
   pub vertices : length m.vertices ≡ l.taken.vertices
   pub links : length m.links ≡ l.taken.links
   pub bytes : length m.bytes ≡ l.taken.bytes
@@ -103,9 +103,9 @@ pub record Holds (l : Lent) (u : Counts) (m : Model) : Type 0 where
   pub count : u.links ≡ m.taken.links
   pub bytes : u.bytes ≡ m.taken.bytes
   pub above : u.parents ≡ length (parent_rows (tables_of m))
-  pub plain : All PlainLookup m.lookups
+  pub plain : AllByRecursion PlainLookup m.lookups
   pub distinct : Distinct (map vertex_of (model_walk m))
-  pub below : All (λ (p : Placed). p.vertex < m.taken.vertices) (model_walk m)
+  pub below : AllByRecursion (λ (p : Placed). p.vertex < m.taken.vertices) (model_walk m)
   pub whole : length (model_walk m) ≡ m.taken.vertices
   pub rows : (v : ℕ) → v < u.vertices → vertex_at l.vertices v ≡ vertex_row m (vertex_at l.vertices v).start v
   pub tables : (v : ℕ) → v < u.vertices → Bears (used_of l u) v (table_in (model_walk m) v)

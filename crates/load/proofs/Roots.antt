@@ -1,6 +1,6 @@
 -- The root words of a stream: where they stand, and what they name.
 use Rattle.std.proofs.Common.{◌≡◌, ℕ, ◌+◌, ◌-◌, ◌^◌, ◌<◌, ◌≤◌, List, [], ◌∷◌, ◌++◌, map, length, take, drop, sym, refl, ap, ◌∙◌, arith, length-append}
-use Rattle.std.specs.List.{flat_map, AllByRecursion as All}
+use Rattle.std.specs.List.{flat_map, AllByRecursion}
 use Rattle.std.proofs.lemmas.List.{length-map, map-append, drop_at, take_at}
 use Rattle.words.specs.declared.WordKind.TheVariants.{Root, Count}
 use Rattle.words.specs.Words.{word_of}
@@ -11,7 +11,7 @@ use Rattle.load.specs.Outcome.{root_number}
 named : (v : ℕ) → v < 2 ^ 28 → root_number (word_of (say Root v)) ≡ v
 named v h = omega arith
 
-all_named : (n : ℕ) (vs : List ℕ) → n < 2 ^ 28 → All (λ r. r < n) vs → map root_number (map word_of (map (say Root) vs)) ≡ vs
+all_named : (n : ℕ) (vs : List ℕ) → n < 2 ^ 28 → AllByRecursion (λ r. r < n) vs → map root_number (map word_of (map (say Root) vs)) ≡ vs
 all_named n [] l h = refl
 all_named n (v ∷ vs) l h = ap (λ x. x ∷ map root_number (map word_of (map (say Root) vs))) (named v (let k = h.0 in omega arith)) ∙ ap (λ xs. v ∷ xs) (all_named n vs l h.1)
 

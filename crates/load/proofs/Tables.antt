@@ -1,6 +1,6 @@
 -- The tables of a loaded model are those of its stream, vertex by vertex, and their link rows are what was laid.
 use Rattle.std.proofs.Common.{◌≡◌, ℕ, suc, ◌+◌, List, [], ◌∷◌, ◌++◌, map, length, Some, None, Option, sym, refl, ap, ◌∙◌, subst, arith}
-use Rattle.std.specs.List.{flat_map, AllByRecursion as All, range_with_len}
+use Rattle.std.specs.List.{flat_map, AllByRecursion, range_with_len}
 use Rattle.std.specs.List.Sorted.{IsPermutation}
 use Rattle.std.proofs.lemmas.List.Sorted.{IsPermutation-sym}
 use Rattle.std.proofs.ByRecursion.{has_shuffled, All-append}
@@ -22,31 +22,31 @@ use Rattle.graph.specs.Holding.{tables_of}
 abbrev Rises : Placed → Type 0
 Rises p = Up 0 p.table.slots
 
-all_each : {X Y : Type 0} (P : Y → Type 0) (f : X → List Y) → ((x : X) → All P (f x)) → (xs : List X) → All P (flat_map f xs)
+all_each : {X Y : Type 0} (P : Y → Type 0) (f : X → List Y) → ((x : X) → AllByRecursion P (f x)) → (xs : List X) → AllByRecursion P (flat_map f xs)
 all_each P f h [] = tt
 all_each P f h (x ∷ xs) = All-append P (f x) (flat_map f xs) (h x) (all_each P f h xs)
 
-ligatures_rise : (c : ℕ) (gs : List Ligature) → All Rises (map (ligature_table c) gs)
+ligatures_rise : (c : ℕ) (gs : List Ligature) → AllByRecursion Rises (map (ligature_table c) gs)
 ligatures_rise c [] = tt
 ligatures_rise c (g ∷ gs) = (tt, ligatures_rise c gs)
 
-set_rises : (c : ℕ) (y : LigatureSet) → All Rises (set_walk c y)
+set_rises : (c : ℕ) (y : LigatureSet) → AllByRecursion Rises (set_walk c y)
 set_rises c y = (up_from 2 0 (map (λ (g : Ligature). g.vertex) y.ligatures) (omega arith), ligatures_rise c y.ligatures)
 
-extension_rises : (o : Option ℕ) (v : ℕ) → All Rises (extension_walk o v)
+extension_rises : (o : Option ℕ) (v : ℕ) → AllByRecursion Rises (extension_walk o v)
 extension_rises None v = tt
 extension_rises (Some e) v = ((omega arith, tt), tt)
 
-subtable_rises : (x : Subtable) → All Rises (subtable_walk x)
+subtable_rises : (x : Subtable) → AllByRecursion Rises (subtable_walk x)
 subtable_rises x =
     All-append Rises (extension_walk x.extension x.vertex) (subtable_table x ∷ coverage_table x ∷ flat_map (set_walk x.coverage) x.sets)
     (extension_rises x.extension x.vertex)
     ((omega arith, up_from 6 3 (map (λ (y : LigatureSet). y.vertex) x.sets) (omega arith)), (tt, all_each Rises (set_walk x.coverage) (set_rises x.coverage) x.sets))
 
-lookup_rises : (l : Lookup) → All Rises (lookup_walk l)
+lookup_rises : (l : Lookup) → AllByRecursion Rises (lookup_walk l)
 lookup_rises l = (up_from 6 0 (map (λ (x : Subtable). head x) l.subtables) (omega arith), all_each Rises subtable_walk subtable_rises l.subtables)
 
-walk_rises : (m : Model) → All Rises (model_walk m)
+walk_rises : (m : Model) → AllByRecursion Rises (model_walk m)
 walk_rises m = all_each Rises lookup_walk lookup_rises m.lookups
 
 -- TABLES AND ROWS ALONG A LIST

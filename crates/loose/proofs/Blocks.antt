@@ -1,6 +1,6 @@
 -- The link rows of a table in order of position: its slots by position, then its virtual links; what a row stands for.
 use Rattle.std.proofs.Common.{◌≡◌, ℕ, suc, ◌+◌, ◌<◌, ◌≤◌, min, Bool, false, cond, eqb, leb, ◌⊎◌, List, [], ◌∷◌, ◌++◌, map, length, count_by, sym, refl, ap, ◌∙◌, inl, inr, ⊎_elim, arith}
-use Rattle.std.specs.List.{ContainsAt as Has, AllByRecursion as All}
+use Rattle.std.specs.List.{ContainsAt as Has, AllByRecursion}
 use Rattle.std.specs.List.Sorted.{IsPermutation}
 use Rattle.std.proofs.lemmas.List.Sorted.{IsPermutation-sym, sum_by-IsPermutation, length_permutation}
 use Rattle.std.proofs.ByRecursion.{all_shuffled, has_shuffled}
@@ -41,11 +41,11 @@ module _ (size v : ℕ) where
   abbrev Behind : LinkRow → Type 0
   Behind r = size ≤ r.position
 
-  front_in : (r : LinkRow) (rs : List LinkRow) → All Behind rs → insert_by (clipped size) r rs ≡ r ∷ rs
+  front_in : (r : LinkRow) (rs : List LinkRow) → AllByRecursion Behind rs → insert_by (clipped size) r rs ≡ r ∷ rs
   front_in r [] h = refl
   front_in r (y ∷ ys) h = let k = h.0 in cond-true (leb (min r.position size) (min y.position size)) (r ∷ y ∷ ys) (y ∷ insert_by (clipped size) r ys) (le-leb (min r.position size) (min y.position size) (omega arith))
 
-  slot_in : (l : Slot) (os : List Slot) (rs : List LinkRow) → Inside l → All Inside os → All Behind rs → insert_by (clipped size) (slot_row v l) (map (slot_row v) os ++ rs) ≡ map (slot_row v) (insert_by place l os) ++ rs
+  slot_in : (l : Slot) (os : List Slot) (rs : List LinkRow) → Inside l → AllByRecursion Inside os → AllByRecursion Behind rs → insert_by (clipped size) (slot_row v l) (map (slot_row v) os ++ rs) ≡ map (slot_row v) (insert_by place l os) ++ rs
   slot_in l [] rs i h b = front_in (slot_row v l) rs b
   slot_in l (o ∷ os) rs i h b =
       let k = h.0 in
@@ -60,7 +60,7 @@ module _ (size v : ℕ) where
       ∙ ap (λ z. map (slot_row v) z ++ rs) (sym (cond-false (leb l.position o.position) (l ∷ o ∷ os) (o ∷ insert_by place l os) e)))
       (cases_Bool (leb l.position o.position))
 
-  virtual_in : (r : LinkRow) (os : List Slot) (rs : List LinkRow) → Behind r → All Inside os → All Behind rs → insert_by (clipped size) r (map (slot_row v) os ++ rs) ≡ map (slot_row v) os ++ r ∷ rs
+  virtual_in : (r : LinkRow) (os : List Slot) (rs : List LinkRow) → Behind r → AllByRecursion Inside os → AllByRecursion Behind rs → insert_by (clipped size) r (map (slot_row v) os ++ rs) ≡ map (slot_row v) os ++ r ∷ rs
   virtual_in r [] rs i h b = front_in r rs b
   virtual_in r (o ∷ os) rs i h b =
       let k = h.0 in
@@ -68,14 +68,14 @@ module _ (size v : ℕ) where
       cond-false (leb (min r.position size) (min o.position size)) (r ∷ slot_row v o ∷ rest) (slot_row v o ∷ insert_by (clipped size) r rest) (lt-leb (min r.position size) (min o.position size) (omega arith))
       ∙ ap (λ z. slot_row v o ∷ z) (virtual_in r os rs i h.1 b)
 
-  all_behind : (k : ℕ) (ts : List ℕ) → size ≤ behind_all → All Behind (virtual_rows v k ts)
+  all_behind : (k : ℕ) (ts : List ℕ) → size ≤ behind_all → AllByRecursion Behind (virtual_rows v k ts)
   all_behind k [] h = tt
   all_behind k (t ∷ ts) h = (omega arith, all_behind (suc k) ts h)
 
-  all_inside : (ls : List Slot) → All Inside ls → All Inside (ordered place ls)
+  all_inside : (ls : List Slot) → AllByRecursion Inside ls → AllByRecursion Inside (ordered place ls)
   all_inside ls h = all_shuffled Inside ls (ordered place ls) (ordered_shuffled place ls) h
 
-  pub block_is : (k : ℕ) (ls : List StreamLink) → size ≤ behind_all → All (λ (l : Slot). l.position < size) (slots_of ls) → ordered (clipped size) (stream_rows v k ls) ≡ map (slot_row v) (ordered place (slots_of ls)) ++ virtual_rows v k (virtuals_of ls)
+  pub block_is : (k : ℕ) (ls : List StreamLink) → size ≤ behind_all → AllByRecursion (λ (l : Slot). l.position < size) (slots_of ls) → ordered (clipped size) (stream_rows v k ls) ≡ map (slot_row v) (ordered place (slots_of ls)) ++ virtual_rows v k (virtuals_of ls)
   block_is k [] m h = refl
   block_is k (real w p t ∷ ls) m h =
       ap (insert_by (clipped size) (record_row v w p t)) (block_is k ls m h.1)
@@ -86,7 +86,7 @@ module _ (size v : ℕ) where
       ∙ virtual_in (virtual_row v k t) (ordered place (slots_of ls)) (virtual_rows v (suc k) (virtuals_of ls)) (omega arith) (all_inside (slots_of ls) h) (all_behind (suc k) (virtuals_of ls) m)
 
 -- WHAT A ROW STANDS FOR
-pub owners : (v k : ℕ) (ls : List StreamLink) → All (λ (r : LinkRow). r.owner ≡ v) (stream_rows v k ls)
+pub owners : (v k : ℕ) (ls : List StreamLink) → AllByRecursion (λ (r : LinkRow). r.owner ≡ v) (stream_rows v k ls)
 owners v k [] = tt
 owners v k (real w p t ∷ ls) = (refl, owners v k ls)
 owners v k (virtual t ∷ ls) = (refl, owners v (suc k) ls)
@@ -99,7 +99,7 @@ length_rows v k (virtual t ∷ ls) = ap suc (length_rows v (suc k) ls)
 pub block_shuffled : (v : ℕ) (t : StreamTable) → IsPermutation (stream_rows v 0 t.links) (block_of v t)
 block_shuffled v t = ordered_shuffled (clipped (size_of t)) (stream_rows v 0 t.links)
 
-pub block_owners : (v : ℕ) (t : StreamTable) → All (λ (r : LinkRow). r.owner ≡ v) (block_of v t)
+pub block_owners : (v : ℕ) (t : StreamTable) → AllByRecursion (λ (r : LinkRow). r.owner ≡ v) (block_of v t)
 block_owners v t = all_shuffled (λ (r : LinkRow). r.owner ≡ v) (stream_rows v 0 t.links) (block_of v t) (block_shuffled v t) (owners v 0 t.links)
 
 pub length_block : (v : ℕ) (t : StreamTable) → length (block_of v t) ≡ length t.links
@@ -165,11 +165,11 @@ Fit n size r = (r.target < n) × (0 < wide r.width → r.position + wide r.width
 abbrev pub FitSlot : ℕ → ℕ → Slot → Type 0
 FitSlot n size l = (l.target < n) × (0 < l.width) × (l.position + l.width ≤ size)
 
-rows_fit : (n size v k : ℕ) (ls : List StreamLink) → All (Fit n size) (stream_rows v k ls) → All (FitSlot n size) (slots_of ls) × All (λ u. u < n) (virtuals_of ls)
+rows_fit : (n size v k : ℕ) (ls : List StreamLink) → AllByRecursion (Fit n size) (stream_rows v k ls) → AllByRecursion (FitSlot n size) (slots_of ls) × AllByRecursion (λ u. u < n) (virtuals_of ls)
 rows_fit n size v k [] h = (tt, tt)
 rows_fit n size v k (real Two p t ∷ ls) h = let r = rows_fit n size v k ls h.1 in ((((h.0.0, omega arith, h.0.1 (omega arith)), r.0)), r.1)
 rows_fit n size v k (real Four p t ∷ ls) h = let r = rows_fit n size v k ls h.1 in ((((h.0.0, omega arith, h.0.1 (omega arith)), r.0)), r.1)
 rows_fit n size v k (virtual t ∷ ls) h = let r = rows_fit n size v (suc k) ls h.1 in (r.0, (h.0.0, r.1))
 
-pub block_fit : (n size v : ℕ) (t : StreamTable) → All (Fit n size) (block_of v t) → All (FitSlot n size) (slots_of t.links) × All (λ u. u < n) (virtuals_of t.links)
+pub block_fit : (n size v : ℕ) (t : StreamTable) → AllByRecursion (Fit n size) (block_of v t) → AllByRecursion (FitSlot n size) (slots_of t.links) × AllByRecursion (λ u. u < n) (virtuals_of t.links)
 block_fit n size v t h = rows_fit n size v 0 t.links (all_shuffled (Fit n size) (block_of v t) (stream_rows v 0 t.links) (IsPermutation-sym (stream_rows v 0 t.links) (block_of v t) (block_shuffled v t)) h)

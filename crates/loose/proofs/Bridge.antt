@@ -1,6 +1,6 @@
 -- From the memory that was filled with a stream to the stream: what the test for loose links says, and what the memory bears once there are none.
 use Rattle.std.proofs.Common.{◌≡◌, ℕ, suc, ◌+◌, ◌<◌, ◌≤◌, cond, ◌⊎◌, List, [], ◌∷◌, ◌++◌, map, length, Some, None, count_by, Option, sym, refl, ap, ◌∙◌, subst, inl, inr, ⊎_elim, arith, MatchOption}
-use Rattle.std.specs.List.{ContainsAt as Has, AllByRecursion as All}
+use Rattle.std.specs.List.{ContainsAt as Has, AllByRecursion}
 use Rattle.std.specs.List.Sorted.{IsPermutation}
 use Rattle.std.proofs.ByRecursion.{All-append, All-weaker, All-get_or, all-has, all_has_itself, all_shuffled}
 use Rattle.std.proofs.lemmas.List.Sorted.{IsPermutation-sym, sum_by-IsPermutation}
@@ -30,11 +30,11 @@ use Rattle.loose.proofs.Standing.{length_vertices, stands, blocks_owned}
 -- a table's slots once nothing is loose
 pub record Firm (t : Table) : Type 0 where
   pub up : Up 0 t.slots
-  pub widths : All (λ (l : Slot). (l.width ≡ 2) ⊎ (l.width ≡ 4)) t.slots
-  pub inside : All (λ (l : Slot). l.position + l.width ≤ length t.bytes) t.slots
-  pub positions : All (λ (l : Slot). l.position < behind_all) t.slots
+  pub widths : AllByRecursion (λ (l : Slot). (l.width ≡ 2) ⊎ (l.width ≡ 4)) t.slots
+  pub inside : AllByRecursion (λ (l : Slot). l.position + l.width ≤ length t.bytes) t.slots
+  pub positions : AllByRecursion (λ (l : Slot). l.position < behind_all) t.slots
 
-slot_widths : (ls : List StreamLink) → All (λ (l : Slot). (l.width ≡ 2) ⊎ (l.width ≡ 4)) (slots_of ls)
+slot_widths : (ls : List StreamLink) → AllByRecursion (λ (l : Slot). (l.width ≡ 2) ⊎ (l.width ≡ 4)) (slots_of ls)
 slot_widths [] = tt
 slot_widths (real Two p t ∷ ls) = (inl refl, slot_widths ls)
 slot_widths (real Four p t ∷ ls) = (inr refl, slot_widths ls)
@@ -54,13 +54,13 @@ module _ (s : Stream) (t : StreamTable) (below : size_of t < behind_all) (tight 
   bytes_size : length (bytes_of t) ≡ size_of t
   bytes_size = length-value_bytes t.values
 
-  slots_inside : All (λ (l : Slot). l.position + l.width ≤ length (bytes_of t)) (slots_of t.links)
+  slots_inside : AllByRecursion (λ (l : Slot). l.position + l.width ≤ length (bytes_of t)) (slots_of t.links)
   slots_inside =
       All-weaker (Has (slots_of t.links)) (λ (l : Slot). l.position + l.width ≤ length (bytes_of t))
       (λ l h. ⊎_elim (λ g. absurd (tight (beyond l h g))) (λ g. g) (cases_lt (length (bytes_of t)) (l.position + l.width)))
       (slots_of t.links) (all_has_itself (slots_of t.links))
 
-  slots_before : All (λ (l : Slot). l.position < size_of t) (slots_of t.links)
+  slots_before : AllByRecursion (λ (l : Slot). l.position < size_of t) (slots_of t.links)
   slots_before =
       All-weaker (Has (slots_of t.links)) (λ (l : Slot). l.position < size_of t)
       (λ l h.
@@ -81,13 +81,13 @@ module _ (s : Stream) (t : StreamTable) (below : size_of t < behind_all) (tight 
         positions = on (λ (l : Slot). l.position < behind_all) (All-weaker (λ (l : Slot). l.position < size_of t) (λ (l : Slot). l.position < behind_all) (λ l h. omega arith) (slots_of t.links) slots_before);
       }
     where
-      on : (P : Slot → Type 0) → All P (slots_of t.links) → All P (ordered place (slots_of t.links))
+      on : (P : Slot → Type 0) → AllByRecursion P (slots_of t.links) → AllByRecursion P (ordered place (slots_of t.links))
       on P h = all_shuffled P (slots_of t.links) (ordered place (slots_of t.links)) (ordered_shuffled place (slots_of t.links)) h
 
   pub block_rows : (v : ℕ) → block_of v t ≡ table_rows v (table_for t)
   block_rows v = block_is (size_of t) v 0 t.links (omega arith) slots_before
 
-  pub block_targets : (v : ℕ) → All (λ (r : LinkRow). r.target < length s.tables) (block_of v t)
+  pub block_targets : (v : ℕ) → AllByRecursion (λ (r : LinkRow). r.target < length s.tables) (block_of v t)
   block_targets v =
       All-weaker (Has (block_of v t)) (λ (r : LinkRow). r.target < length s.tables)
       (λ r h. ⊎_elim
@@ -99,7 +99,7 @@ module _ (s : Stream) (t : StreamTable) (below : size_of t < behind_all) (tight 
       (cases_lt r.target (length s.tables)))
       (block_of v t) (all_has_itself (block_of v t))
 
-blocks_all : (P : LinkRow → Type 0) (v : ℕ) (ts : List StreamTable) → ((u k : ℕ) (t : StreamTable) → nth ts k ≡ Some t → All P (block_of u t)) → All P (blocks_from v ts)
+blocks_all : (P : LinkRow → Type 0) (v : ℕ) (ts : List StreamTable) → ((u k : ℕ) (t : StreamTable) → nth ts k ≡ Some t → AllByRecursion P (block_of u t)) → AllByRecursion P (blocks_from v ts)
 blocks_all P v [] h = tt
 blocks_all P v (t ∷ ts) h = All-append P (block_of v t) (blocks_from (suc v) ts) (h v 0 t refl) (blocks_all P (suc v) ts (λ u k x e. h u (suc k) x e))
 

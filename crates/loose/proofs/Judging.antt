@@ -1,6 +1,6 @@
 -- Faulty rows in the blocks of a stream's tables are loose links, and the first of them is one of the lowest loose vertex.
 use Rattle.std.proofs.Common.{◌≡◌, ℕ, zero, suc, ◌+◌, ◌<◌, ◌≤◌, false, cond, eqb, ◌⊎◌, List, [], ◌∷◌, map, length, Some, None, count_by, Option, sym, refl, ap, ◌∙◌, subst, inl, inr, ⊎_elim, arith}
-use Rattle.std.specs.List.{ContainsAt as Has, AllByRecursion as All}
+use Rattle.std.specs.List.{ContainsAt as Has, AllByRecursion}
 use Rattle.std.proofs.ByRecursion.{all-has, All-weaker}
 use Rattle.std.proofs.lemmas.List.Sorted.{sum_by-IsPermutation}
 use Rattle.std.proofs.lemmas.Bool.{cases_lt, cases_eq, cond_both, eq-eqb, ne_eqb, cond-false}
@@ -67,7 +67,7 @@ strict a (x ∷ y ∷ ys) r h =
 
 module _ (vs : List VertexRow) where
   -- ROWS WITHOUT A FAULT
-  free_fit : (b : Option LinkRow) (rows : List LinkRow) (v size : ℕ) → All (λ (r : LinkRow). r.owner ≡ v) rows → (vertex_at vs v).size ≡ size → Free vs b rows → All (Fit (length vs) size) rows
+  free_fit : (b : Option LinkRow) (rows : List LinkRow) (v size : ℕ) → AllByRecursion (λ (r : LinkRow). r.owner ≡ v) rows → (vertex_at vs v).size ≡ size → Free vs b rows → AllByRecursion (Fit (length vs) size) rows
   free_fit b [] v size o e f = tt
   free_fit b (r ∷ rs) v size o e f =
       let n : (vertex_at vs r.owner).size ≡ size = ap (λ u. (vertex_at vs u).size) o.0 ∙ e in (
@@ -111,7 +111,7 @@ module _ (vs : List VertexRow) where
   at_first size v b r rs t o e (fault.beyond w l) = let n : (vertex_at vs r.owner).size ≡ size = ap (λ u. (vertex_at vs u).size) o ∙ e in inl (r, has_first r rs, inr (w, omega arith))
   at_first size v b r rs t o e (fault.twins h) = t h
 
-  stops_among : (size v u : ℕ) (q : LinkRow) (rs : List LinkRow) → All (λ (r : LinkRow). r.owner ≡ v) rs → (vertex_at vs v).size ≡ size → Stops vs (Some q) rs u → (u ≡ v) × Among size (q ∷ rs)
+  stops_among : (size v u : ℕ) (q : LinkRow) (rs : List LinkRow) → AllByRecursion (λ (r : LinkRow). r.owner ≡ v) rs → (vertex_at vs v).size ≡ size → Stops vs (Some q) rs u → (u ≡ v) × Among size (q ∷ rs)
   stops_among size v u q [] o e s = absurd s
   stops_among size v u q (r ∷ rs) o e s =
       ⊎_elim
@@ -132,7 +132,7 @@ module _ (vs : List VertexRow) where
       wrong (fault.beyond w l) = let n : (vertex_at vs r.owner).size ≡ size = ap (λ x. (vertex_at vs x).size) o.0 ∙ e in inl (r, has_later q (r ∷ rs) r (has_first r rs), inr (w, omega arith))
       wrong (fault.twins t) = two t
 
-  stops_in : (size v u : ℕ) (b : Option LinkRow) (rows : List LinkRow) → Lower b v → All (λ (r : LinkRow). r.owner ≡ v) rows → (vertex_at vs v).size ≡ size → Stops vs b rows u → (u ≡ v) × Among size rows
+  stops_in : (size v u : ℕ) (b : Option LinkRow) (rows : List LinkRow) → Lower b v → AllByRecursion (λ (r : LinkRow). r.owner ≡ v) rows → (vertex_at vs v).size ≡ size → Stops vs b rows u → (u ≡ v) × Among size rows
   stops_in size v u b [] l o e s = absurd s
   stops_in size v u b (r ∷ rs) l o e s =
       ⊎_elim
@@ -152,7 +152,7 @@ module _ (vs : List VertexRow) where
     pub free_tight : (b : Option LinkRow) (v : ℕ) (t : StreamTable) → (vertex_at vs v).size ≡ size_of t → size_of t ≤ behind_all → Free vs b (block_of v t) → Loose s t → ⊥
     free_tight b v t e m f x = no x
       where
-        fit : All (FitSlot (length vs) (size_of t)) (slots_of t.links) × All (λ u. u < length vs) (virtuals_of t.links)
+        fit : AllByRecursion (FitSlot (length vs) (size_of t)) (slots_of t.links) × AllByRecursion (λ u. u < length vs) (virtuals_of t.links)
         fit = block_fit (length vs) (size_of t) v t (free_fit b (block_of v t) v (size_of t) (block_owners v t) e f)
 
         up : Up 0 (ordered place (slots_of t.links))

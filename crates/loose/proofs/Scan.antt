@@ -1,6 +1,6 @@
 -- Faults by the rest of the rows: none, or a first one.
 use Rattle.std.proofs.Common.{◌≡◌, ℕ, zero, suc, ◌+◌, ◌<◌, ◌⊎◌, List, [], ◌∷◌, ◌++◌, length, Some, None, Option, sym, ap, inl, inr, ⊎_elim, add-one, arith}
-use Rattle.std.specs.List.{AllByRecursion as All}
+use Rattle.std.specs.List.{AllByRecursion}
 use Rattle.rows.specs.declared.LinkRow.{LinkRow}
 use Rattle.graph.specs.declared.VertexRow.{VertexRow}
 use Rattle.graph.specs.Memory.{vertex_at}
@@ -87,6 +87,6 @@ pub lower_more : (b : Option LinkRow) (v : ℕ) → Lower b v → Lower b (suc v
 lower_more None v h = tt
 lower_more (Some r) v h = omega arith
 
-pub last_lower : (b : Option LinkRow) (xs : List LinkRow) (v : ℕ) → All (λ (r : LinkRow). r.owner ≡ v) xs → Lower b (suc v) → Lower (last b xs) (suc v)
+pub last_lower : (b : Option LinkRow) (xs : List LinkRow) (v : ℕ) → AllByRecursion (λ (r : LinkRow). r.owner ≡ v) xs → Lower b (suc v) → Lower (last b xs) (suc v)
 last_lower b [] v h l = l
 last_lower b (x ∷ xs) v h l = last_lower (Some x) xs v h.1 (let e = h.0 in omega arith)

@@ -1,6 +1,6 @@
 -- Where the bytes and rows of a stream's table stand in the memory that was filled with the stream.
 use Rattle.std.proofs.Common.{◌≡◌, ℕ, zero, suc, ◌+◌, ◌<◌, ◌≤◌, List, [], ◌∷◌, ◌++◌, length, get_or, take, drop, Some, sym, refl, ap, ◌∙◌, subst, arith}
-use Rattle.std.specs.List.{AllByRecursion as All}
+use Rattle.std.specs.List.{AllByRecursion}
 use Rattle.std.proofs.lemmas.List.{append_assoc, length-append, length-map, get_or-map, take_at, drop_at}
 use Rattle.std.proofs.ByRecursion.{All-append, All-weaker}
 use Rattle.rows.specs.declared.LinkRow.{LinkRow}
@@ -81,7 +81,7 @@ stands vs ts v t e h =
     (subst (λ r. Stands r (filled_bytes ts) (blocks_from 0 ts) (0 + v) t) (bare_same vs ts v e (nth_below ts v t h)) (stands_from 0 0 0 0 v ts t [] [] h refl refl))
 
 -- OWNERS of all rows
-pub blocks_owned : (v : ℕ) (ts : List StreamTable) → All (λ (r : LinkRow). r.owner < v + length ts) (blocks_from v ts)
+pub blocks_owned : (v : ℕ) (ts : List StreamTable) → AllByRecursion (λ (r : LinkRow). r.owner < v + length ts) (blocks_from v ts)
 blocks_owned v [] = tt
 blocks_owned v (t ∷ ts) =
     All-append (λ (r : LinkRow). r.owner < v + length (t ∷ ts)) (block_of v t) (blocks_from (suc v) ts)

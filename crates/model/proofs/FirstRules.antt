@@ -1,6 +1,6 @@
 -- Shaping gives the first rule with whose glyphs the string begins.
 use Rattle.std.proofs.Common.{◌≡◌, ℕ, ◌<◌, true, false, eqb, ltb, List, [], ◌∷◌, ◌++◌, length, drop, Ok, sym, refl, ap, ◌∙◌, ⊎_elim, arith, length-append}
-use Rattle.std.specs.List.{AllByRecursion as All}
+use Rattle.std.specs.List.{AllByRecursion}
 use Rattle.std.proofs.lemmas.Bool.{both_ways, cases_Bool, eq-eqb, eqb-true, lt-ltb, and_parts, and_from, cond-true, cond-false}
 use Rattle.model.specs.Rules.{Rule, stands, unshaped, first_rule, shape_by}
 use Rattle.model.specs.ShapingLaws.{Begins, FirstRuleShapes}
@@ -23,11 +23,11 @@ stands_front (g ∷ gs) (x ∷ xs) h =
 passes : (s : List ℕ) (r : Rule) → (Begins s r → ⊥) → stands r.glyphs s ≡ false
 passes s r never = ⊎_elim (λ t. absurd (never (stands_front r.glyphs s t))) (λ f. f) (cases_Bool (stands r.glyphs s))
 
-one : (before : List Rule) (behind : List Rule) (s : List ℕ) (r : Rule) → All (λ (q : Rule). Begins s q → ⊥) before → Begins s r → first_rule (before ++ r ∷ behind) s ≡ record { glyph = r.ligature; count = length r.glyphs }
+one : (before : List Rule) (behind : List Rule) (s : List ℕ) (r : Rule) → AllByRecursion (λ (q : Rule). Begins s q → ⊥) before → Begins s r → first_rule (before ++ r ∷ behind) s ≡ record { glyph = r.ligature; count = length r.glyphs }
 one [] behind s r a b = cond-true (stands r.glyphs s) _ _ (begins_stands s r b)
 one (q ∷ before) behind s r a b = cond-false (stands q.glyphs s) _ _ (passes s q a.0) ∙ one before behind s r a.1 b
 
-none : (rs : List Rule) (s : List ℕ) → All (λ (q : Rule). Begins s q → ⊥) rs → first_rule rs s ≡ unshaped
+none : (rs : List Rule) (s : List ℕ) → AllByRecursion (λ (q : Rule). Begins s q → ⊥) rs → first_rule rs s ≡ unshaped
 none [] s a = refl
 none (q ∷ rs) s a = cond-false (stands q.glyphs s) _ _ (passes s q a.0) ∙ none rs s a.1
 

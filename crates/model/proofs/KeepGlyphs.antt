@@ -1,6 +1,6 @@
 -- The glyphs of each subtable that a division makes: a contiguous part of the original's, which a codec admits.
 use Rattle.std.proofs.Common.{◌≡◌, ℕ, suc, ◌<◌, Bool, true, false, cond, eqb, List, [], ◌∷◌, ◌++◌, map, length, drop, Option, sym, refl, ap, ◌∙◌, subst, arith}
-use Rattle.std.specs.List.{AllByRecursion as All}
+use Rattle.std.specs.List.{AllByRecursion}
 use Rattle.std.proofs.lemmas.List.{append-nil, append_assoc, length-map}
 use Rattle.std.proofs.ByRecursion.{All-weaker}
 use Rattle.std.proofs.lemmas.Bool.{eqb-true, eq-eqb, cond_both}
@@ -66,11 +66,11 @@ module _ (of : ℕ → ℕ) where
   abbrev KnownGroup : Group → Type 0
   KnownGroup t = t.first ≡ of t.set
 
-  groups_known : (es : List Entry) → All Known es → All KnownGroup (groups es)
+  groups_known : (es : List Entry) → AllByRecursion Known es → AllByRecursion KnownGroup (groups es)
   groups_known [] h = tt
   groups_known (e ∷ es) h = join_all KnownGroup KnownGroup e (groups es) h.0 (λ t q k. k) (λ t k. k) (groups_known es h.1)
 
-  join_head : (e : Entry) (ts : List Group) → Known e → All KnownGroup ts → firsts (join_group e ts) ≡ e.first ∷ drop 1 (firsts (join_group e ts))
+  join_head : (e : Entry) (ts : List Group) → Known e → AllByRecursion KnownGroup ts → firsts (join_group e ts) ≡ e.first ∷ drop 1 (firsts (join_group e ts))
   join_head e [] a h = refl
   join_head e (t ∷ ts) a h =
       cond_both (eqb e.set t.set) (with_first e.ligature t ∷ ts) (alone e ∷ t ∷ ts) (λ (u : List Group). firsts u ≡ e.first ∷ drop 1 (firsts u))
@@ -82,7 +82,7 @@ module _ (of : ℕ → ℕ) where
   rest (e ∷ []) ys = drop 1 (firsts (join_group e (groups ys)))
   rest (e ∷ f ∷ fs) ys = rest (f ∷ fs) ys
 
-  groups_front : (xs ys : List Entry) → All Known (xs ++ ys) → firsts (groups (xs ++ ys)) ≡ firsts (groups xs) ++ rest xs ys
+  groups_front : (xs ys : List Entry) → AllByRecursion Known (xs ++ ys) → firsts (groups (xs ++ ys)) ≡ firsts (groups xs) ++ rest xs ys
   groups_front [] ys h = refl
   groups_front (e ∷ []) ys h = join_head e (groups ys) h.0 (groups_known ys h.1)
   groups_front (e ∷ f ∷ fs) ys h =
@@ -94,7 +94,7 @@ module _ (of : ℕ → ℕ) where
       ∙ ap (λ u. u ++ rest (f ∷ fs) ys) (sym (join_firsts e (groups (f ∷ fs))))
 
   -- each part's glyphs are a part of the whole's
-  parts_part : (ps : List (List Entry)) → All Known (whole ps) → All (λ (p : List Entry). PartOf (firsts (groups p)) (firsts (groups (whole ps)))) ps
+  parts_part : (ps : List (List Entry)) → AllByRecursion Known (whole ps) → AllByRecursion (λ (p : List Entry). PartOf (firsts (groups p)) (firsts (groups (whole ps)))) ps
   parts_part [] h = tt
   parts_part (p ∷ ps) h = (
     record { before = []; behind = rest p (whole ps); is = groups_front p (whole ps) h },
@@ -127,32 +127,32 @@ set-firsts i j t (g ∷ k ∷ gs) es some h =
     ∙ ap (λ (b : Bool). cond b [] (t.first ∷ [])) (eq-eqb i i refl))
     ∙ set-firsts i (suc j) t (k ∷ gs) es (omega arith) h
 
-sets_firsts : (i : ℕ) (ts : List LigatureSet) → All (λ (t : LigatureSet). 0 < length t.ligatures) ts → firsts (groups (sets_from i ts)) ≡ map (λ (t : LigatureSet). t.first) ts
+sets_firsts : (i : ℕ) (ts : List LigatureSet) → AllByRecursion (λ (t : LigatureSet). 0 < length t.ligatures) ts → firsts (groups (sets_from i ts)) ≡ map (λ (t : LigatureSet). t.first) ts
 sets_firsts i [] h = refl
 sets_firsts i (t ∷ ts) h =
     set-firsts i 0 t t.ligatures (sets_from (suc i) ts) h.0 (λ e q. later_set e (suc i) ts (omega arith))
     ∙ ap (λ u. t.first ∷ u) (sets_firsts (suc i) ts h.1)
 
 -- THE THEOREM
-pub divided_glyphs : (ceiling : ℕ) (wrapped : Bool) (wrote : ℕ → List ℕ) (fresh : ℕ) (s : Subtable) → All (λ (t : LigatureSet). 0 < length t.ligatures) s.sets → All (λ (t : Subtable). PartOf (glyphs_meant t) (glyphs_meant s)) (divided wrapped wrote fresh s (parts ceiling (entries s)))
+pub divided_glyphs : (ceiling : ℕ) (wrapped : Bool) (wrote : ℕ → List ℕ) (fresh : ℕ) (s : Subtable) → AllByRecursion (λ (t : LigatureSet). 0 < length t.ligatures) s.sets → AllByRecursion (λ (t : Subtable). PartOf (glyphs_meant t) (glyphs_meant s)) (divided wrapped wrote fresh s (parts ceiling (entries s)))
 divided_glyphs c wrapped wrote fresh s full =
     let w = joined_parts c (entries s) in
     let whole_is : firsts (groups (whole (parts c (entries s)))) ≡ glyphs_meant s = ap (λ (es : List Entry). firsts (groups es)) w ∙ sets_firsts 0 s.sets full in
-    let known = subst (λ (es : List Entry). All (λ (e : Entry). e.first ≡ first_of s e.set) es) (sym w) (first_of_entries s) in
+    let known = subst (λ (es : List Entry). AllByRecursion (λ (e : Entry). e.first ≡ first_of s e.set) es) (sym w) (first_of_entries s) in
     divided-all (λ (ts : List LigatureSet). PartOf (map (λ (t : LigatureSet). t.first) ts) (glyphs_meant s)) (λ (p : List Entry). PartOf (firsts (groups p)) (glyphs_meant s))
     (λ own fresh p k. subst (λ (gs : List ℕ). PartOf gs (glyphs_meant s)) (sym (glyphs_of_sets own fresh (groups p))) k)
     wrapped wrote fresh s (parts c (entries s)) (parts_some c (entries s)) w
     (λ _. record { before = []; behind = []; is = sym (append-nil (glyphs_meant s)) })
-    (subst (λ (gs : List ℕ). All (λ (p : List Entry). PartOf (firsts (groups p)) gs) (parts c (entries s))) whole_is (parts_part (first_of s) (parts c (entries s)) known))
+    (subst (λ (gs : List ℕ). AllByRecursion (λ (p : List Entry). PartOf (firsts (groups p)) gs) (parts c (entries s))) whole_is (parts_part (first_of s) (parts c (entries s)) known))
 
-pub sets_full : (ts : List LigatureSet) → All GoodSet ts → All (λ (t : LigatureSet). 0 < length t.ligatures) ts
+pub sets_full : (ts : List LigatureSet) → AllByRecursion GoodSet ts → AllByRecursion (λ (t : LigatureSet). 0 < length t.ligatures) ts
 sets_full ts h = All-weaker GoodSet (λ (t : LigatureSet). 0 < length t.ligatures) (λ t k. k.some) ts h
 
 pub each_coverage_has_a_part_of_the_glyphs_lem : EachCoverageHasAPartOfTheGlyphs
 each_coverage_has_a_part_of_the_glyphs_lem ceiling wrapped wrote fresh s good = divided_glyphs ceiling wrapped wrote fresh s (sets_full s.sets good)
 
 -- so a lawful codec admits them
-pub divided_admitted : (admits : List ℕ → Type 0) (meaning : List ℕ → Option Meant) (span : List ℕ → ℕ) → Lawful admits meaning span → (ceiling : ℕ) (wrapped : Bool) (wrote : ℕ → List ℕ) (fresh : ℕ) (s : Subtable) → GoodSubtable meaning s → All (Fits ceiling) (entries s) → All (λ (t : Subtable). admits (glyphs_meant t)) (divided wrapped wrote fresh s (parts ceiling (entries s)))
+pub divided_admitted : (admits : List ℕ → Type 0) (meaning : List ℕ → Option Meant) (span : List ℕ → ℕ) → Lawful admits meaning span → (ceiling : ℕ) (wrapped : Bool) (wrote : ℕ → List ℕ) (fresh : ℕ) (s : Subtable) → GoodSubtable meaning s → AllByRecursion (Fits ceiling) (entries s) → AllByRecursion (λ (t : Subtable). admits (glyphs_meant t)) (divided wrapped wrote fresh s (parts ceiling (entries s)))
 divided_admitted admits meaning span law c wrapped wrote fresh s good f =
     let adm = law.sound s.covering (glyphs_meant s) (length s.covering) good.means in
     All-weaker (λ (t : Subtable). GoodSets t.sets × PartOf (glyphs_meant t) (glyphs_meant s)) (λ (t : Subtable). admits (glyphs_meant t))

@@ -1,6 +1,6 @@
 -- The sizes of what a division makes: the sets made of a run have the run's size.
 use Rattle.std.proofs.Common.{◌≡◌, ℕ, suc, ◌+◌, ◌<◌, ◌≤◌, Bool, true, false, eqb, List, [], ◌∷◌, ◌++◌, map, length, set, Some, sum_by, Option, sym, refl, ap, ◌∙◌, subst, arith}
-use Rattle.std.specs.List.{flat_map, AllByRecursion as All}
+use Rattle.std.specs.List.{flat_map, AllByRecursion}
 use Rattle.std.proofs.lemmas.List.{append-nil, length-append}
 use Rattle.std.proofs.ByRecursion.{All-append, All-weaker}
 use Rattle.std.proofs.lemmas.List.Sums.{sum_by-cons}
@@ -19,10 +19,10 @@ use Rattle.model.proofs.PartsGroups.{groups_filled, length-groups}
 use Rattle.model.proofs.PartsBytes.{touched_sets}
 
 -- GROUPS one entry further
-pub join_all : (Q R : Group → Type 0) (e : Entry) (ts : List Group) → R (alone e) → ((t : Group) → e.set ≡ t.set → Q t → R (with_first e.ligature t)) → ((t : Group) → Q t → R t) → All Q ts → All R (join_group e ts)
+pub join_all : (Q R : Group → Type 0) (e : Entry) (ts : List Group) → R (alone e) → ((t : Group) → e.set ≡ t.set → Q t → R (with_first e.ligature t)) → ((t : Group) → Q t → R t) → AllByRecursion Q ts → AllByRecursion R (join_group e ts)
 join_all Q R e [] new more old h = (new, tt)
 join_all Q R e (t ∷ ts) new more old h =
-    cond_both (eqb e.set t.set) (with_first e.ligature t ∷ ts) (alone e ∷ t ∷ ts) (λ (u : List Group). All R u)
+    cond_both (eqb e.set t.set) (with_first e.ligature t ∷ ts) (alone e ∷ t ∷ ts) (λ (u : List Group). AllByRecursion R u)
     (λ q. (more t (eqb-true e.set t.set q) h.0, All-weaker Q R old ts h.1))
     (λ q. (new, (old t h.0, All-weaker Q R old ts h.1)))
 
@@ -39,13 +39,13 @@ join_starts e (t ∷ ts) =
     (λ q. refl)
 
 -- SETS OF GROUPS
-pub sets_of_all : (Q : List Ligature → Type 0) (own : ℕ → Bool) (fresh : ℕ) (ts : List Group) → All (λ (t : Group). Q t.ligatures) ts → All (λ (t : LigatureSet). Q t.ligatures) (sets_of own fresh ts)
+pub sets_of_all : (Q : List Ligature → Type 0) (own : ℕ → Bool) (fresh : ℕ) (ts : List Group) → AllByRecursion (λ (t : Group). Q t.ligatures) ts → AllByRecursion (λ (t : LigatureSet). Q t.ligatures) (sets_of own fresh ts)
 sets_of_all Q own fresh [] h = tt
 sets_of_all Q own fresh (t ∷ ts) h =
     cond_both (own t.set)
     (record { vertex = t.owner; first = t.first; ligatures = t.ligatures } ∷ sets_of own fresh ts)
     (record { vertex = fresh; first = t.first; ligatures = t.ligatures } ∷ sets_of own (suc fresh) ts)
-    (λ (u : List LigatureSet). All (λ (t : LigatureSet). Q t.ligatures) u)
+    (λ (u : List LigatureSet). AllByRecursion (λ (t : LigatureSet). Q t.ligatures) u)
     (λ q. (h.0, sets_of_all Q own fresh ts h.1))
     (λ q. (h.0, sets_of_all Q own (suc fresh) ts h.1))
 
@@ -91,42 +91,42 @@ made_size own fresh es =
     omega arith
 
 -- WHAT HOLDS OF THE SETS OF EACH SUBTABLE THAT A DIVISION MAKES
-pub extended_all : (P Q : Subtable → Type 0) → ((e : ℕ) (s : Subtable) → P s → Q (behind e s)) → (fresh : ℕ) (ss : List Subtable) → All P ss → All Q (extended fresh ss)
+pub extended_all : (P Q : Subtable → Type 0) → ((e : ℕ) (s : Subtable) → P s → Q (behind e s)) → (fresh : ℕ) (ss : List Subtable) → AllByRecursion P ss → AllByRecursion Q (extended fresh ss)
 extended_all P Q f fresh [] h = tt
 extended_all P Q f fresh (s ∷ ss) h = (f fresh s h.0, extended_all P Q f (suc fresh) ss h.1)
 
 module _ (P : List LigatureSet → Type 0) (Q : List Entry → Type 0) (made : (own : ℕ → Bool) (fresh : ℕ) (p : List Entry) → Q p → P (sets_of own fresh (groups p))) where
-  pieces-all : (wrote : ℕ → List ℕ) (kept : List Entry) (fresh : ℕ) (ps : List (List Entry)) → All Q ps → All (λ (s : Subtable). P s.sets) (pieces wrote kept fresh ps)
+  pieces-all : (wrote : ℕ → List ℕ) (kept : List Entry) (fresh : ℕ) (ps : List (List Entry)) → AllByRecursion Q ps → AllByRecursion (λ (s : Subtable). P s.sets) (pieces wrote kept fresh ps)
   pieces-all wrote kept fresh [] h = tt
   pieces-all wrote kept fresh (p ∷ ps) h = (made (comes_here kept ps) (fresh + 2) p h.0, pieces-all wrote kept (fresh + 2 + new_sets (comes_here kept ps) (groups p)) ps h.1)
 
   -- the original stays as it is where it is the one part
-  pub divided-all : (wrapped : Bool) (wrote : ℕ → List ℕ) (fresh : ℕ) (s : Subtable) (ps : List (List Entry)) → 0 < length ps → whole ps ≡ entries s → (Q (entries s) → P s.sets) → All Q ps → All (λ (t : Subtable). P t.sets) (divided wrapped wrote fresh s ps)
+  pub divided-all : (wrapped : Bool) (wrote : ℕ → List ℕ) (fresh : ℕ) (s : Subtable) (ps : List (List Entry)) → 0 < length ps → whole ps ≡ entries s → (Q (entries s) → P s.sets) → AllByRecursion Q ps → AllByRecursion (λ (t : Subtable). P t.sets) (divided wrapped wrote fresh s ps)
   divided-all wrapped wrote fresh s [] some w one h = absurd (omega arith)
   divided-all wrapped wrote fresh s (kept ∷ []) some w one h = (one (subst (λ (es : List Entry). Q es) (sym (append-nil kept) ∙ w) h.0), tt)
   divided-all wrapped wrote fresh s (kept ∷ p ∷ ps) some w one h =
       let rest = pieces-all wrote kept fresh (p ∷ ps) h.1 in (
         made (λ i. true) 0 kept h.0,
         cond_both wrapped (extended (after_pieces kept fresh (p ∷ ps)) (pieces wrote kept fresh (p ∷ ps))) (pieces wrote kept fresh (p ∷ ps))
-            (λ (u : List Subtable). All (λ (t : Subtable). P t.sets) u)
+            (λ (u : List Subtable). AllByRecursion (λ (t : Subtable). P t.sets) u)
             (λ _. extended_all (λ (t : Subtable). P t.sets) (λ (t : Subtable). P t.sets) (λ e t k. k) (after_pieces kept fresh (p ∷ ps)) (pieces wrote kept fresh (p ∷ ps)) rest)
             (λ _. rest),
       )
 
 -- SIZES
-divided_bounded : (bound : ℕ) (wrapped : Bool) (wrote : ℕ → List ℕ) (fresh : ℕ) (s : Subtable) (ps : List (List Entry)) → 0 < length ps → whole ps ≡ entries s → All (λ (p : List Entry). run_size p ≤ bound) ps → All (λ (t : Subtable). subtable_size t ≤ bound) (divided wrapped wrote fresh s ps)
+divided_bounded : (bound : ℕ) (wrapped : Bool) (wrote : ℕ → List ℕ) (fresh : ℕ) (s : Subtable) (ps : List (List Entry)) → 0 < length ps → whole ps ≡ entries s → AllByRecursion (λ (p : List Entry). run_size p ≤ bound) ps → AllByRecursion (λ (t : Subtable). subtable_size t ≤ bound) (divided wrapped wrote fresh s ps)
 divided_bounded bound wrapped wrote fresh s ps some w h =
     divided-all (λ (ts : List LigatureSet). run_size (sets_from 0 ts) ≤ bound) (λ (p : List Entry). run_size p ≤ bound)
     (λ own fresh p k. let e = made_size own fresh p in omega arith)
     wrapped wrote fresh s ps some w (λ k. k) h
 
 -- none is above the ceiling, if each ligature fits
-pub divided_within : (ceiling : ℕ) (wrapped : Bool) (wrote : ℕ → List ℕ) (fresh : ℕ) (s : Subtable) → 16 ≤ ceiling → All (Fits ceiling) (entries s) → All (λ (t : Subtable). subtable_size t ≤ ceiling) (divided wrapped wrote fresh s (parts ceiling (entries s)))
+pub divided_within : (ceiling : ℕ) (wrapped : Bool) (wrote : ℕ → List ℕ) (fresh : ℕ) (s : Subtable) → 16 ≤ ceiling → AllByRecursion (Fits ceiling) (entries s) → AllByRecursion (λ (t : Subtable). subtable_size t ≤ ceiling) (divided wrapped wrote fresh s (parts ceiling (entries s)))
 divided_within c wrapped wrote fresh s least f =
     divided_bounded c wrapped wrote fresh s (parts c (entries s)) (parts_some c (entries s)) (joined_parts c (entries s)) (parts_within c (entries s) (record { least = least; short = f }))
 
 -- none is larger than the original
-pub divided_no_larger : (ceiling bound : ℕ) (wrapped : Bool) (wrote : ℕ → List ℕ) (fresh : ℕ) (s : Subtable) → subtable_size s ≤ bound → All (λ (t : Subtable). subtable_size t ≤ bound) (divided wrapped wrote fresh s (parts ceiling (entries s)))
+pub divided_no_larger : (ceiling bound : ℕ) (wrapped : Bool) (wrote : ℕ → List ℕ) (fresh : ℕ) (s : Subtable) → subtable_size s ≤ bound → AllByRecursion (λ (t : Subtable). subtable_size t ≤ bound) (divided wrapped wrote fresh s (parts ceiling (entries s)))
 divided_no_larger c bound wrapped wrote fresh s h =
     divided_bounded bound wrapped wrote fresh s (parts c (entries s)) (parts_some c (entries s)) (joined_parts c (entries s))
     (parts_no_larger bound (parts c (entries s)) (subst (λ (es : List Entry). run_size es ≤ bound) (sym (joined_parts c (entries s))) h))
@@ -134,14 +134,14 @@ divided_no_larger c bound wrapped wrote fresh s h =
 pub divisions_do_not_grow_lem : DivisionsDoNotGrow
 divisions_do_not_grow_lem c wrapped wrote fresh s = divided_no_larger c (subtable_size s) wrapped wrote fresh s (omega arith)
 
-pub split_all_within : (ceiling : ℕ) (wrapped : Bool) (wrote : ℕ → List ℕ) (fresh : ℕ) (ss : List Subtable) → 16 ≤ ceiling → All (λ (s : Subtable). All (Fits ceiling) (entries s)) ss → All (λ (t : Subtable). subtable_size t ≤ ceiling) (split_all ceiling wrapped wrote fresh ss)
+pub split_all_within : (ceiling : ℕ) (wrapped : Bool) (wrote : ℕ → List ℕ) (fresh : ℕ) (ss : List Subtable) → 16 ≤ ceiling → AllByRecursion (λ (s : Subtable). AllByRecursion (Fits ceiling) (entries s)) ss → AllByRecursion (λ (t : Subtable). subtable_size t ≤ ceiling) (split_all ceiling wrapped wrote fresh ss)
 split_all_within c wrapped wrote fresh [] least f = tt
 split_all_within c wrapped wrote fresh (s ∷ ss) least f =
     All-append (λ (t : Subtable). subtable_size t ≤ c) (divided wrapped wrote fresh s (parts c (entries s))) (split_all c wrapped wrote (after_divided wrapped fresh (parts c (entries s))) ss)
     (divided_within c wrapped wrote fresh s least f.0)
     (split_all_within c wrapped wrote (after_divided wrapped fresh (parts c (entries s))) ss least f.1)
 
-pub split_all_no_larger : (ceiling bound : ℕ) (wrapped : Bool) (wrote : ℕ → List ℕ) (fresh : ℕ) (ss : List Subtable) → All (λ (s : Subtable). subtable_size s ≤ bound) ss → All (λ (t : Subtable). subtable_size t ≤ bound) (split_all ceiling wrapped wrote fresh ss)
+pub split_all_no_larger : (ceiling bound : ℕ) (wrapped : Bool) (wrote : ℕ → List ℕ) (fresh : ℕ) (ss : List Subtable) → AllByRecursion (λ (s : Subtable). subtable_size s ≤ bound) ss → AllByRecursion (λ (t : Subtable). subtable_size t ≤ bound) (split_all ceiling wrapped wrote fresh ss)
 split_all_no_larger c bound wrapped wrote fresh [] h = tt
 split_all_no_larger c bound wrapped wrote fresh (s ∷ ss) h =
     All-append (λ (t : Subtable). subtable_size t ≤ bound) (divided wrapped wrote fresh s (parts c (entries s))) (split_all c wrapped wrote (after_divided wrapped fresh (parts c (entries s))) ss)

@@ -1,6 +1,6 @@
 -- A division of a well-formed lookup leaves it well-formed, if its new coverages were written well.
 use Rattle.std.proofs.Common.{◌≡◌, ℕ, suc, ◌+◌, ◌<◌, ◌≤◌, Bool, true, false, cond, eqb, List, [], ◌∷◌, ◌++◌, length, is_some, Some, Option, sym, refl, ap, ◌∙◌, subst, ⊎_elim, arith}
-use Rattle.std.specs.List.{AllByRecursion as All}
+use Rattle.std.specs.List.{AllByRecursion}
 use Rattle.std.proofs.lemmas.List.{length-append}
 use Rattle.std.proofs.ByRecursion.{All-append, All-weaker, All-set}
 use Rattle.std.proofs.lemmas.Bool.{eq-eqb, ne_eqb, cases_eq, cond_both}
@@ -38,7 +38,7 @@ tally_append i [] ys = let z : tally i ys ≡ 0 + tally i ys = omega arith in z
 tally_append i (e ∷ es) ys = let h = tally_append i es ys in omega arith
 
 -- a group has no more ligatures than there are entries of its set
-groups_tally : (es : List Entry) → All (λ (t : Group). length t.ligatures ≤ tally t.set es) (groups es)
+groups_tally : (es : List Entry) → AllByRecursion (λ (t : Group). length t.ligatures ≤ tally t.set es) (groups es)
 groups_tally [] = tt
 groups_tally (e ∷ es) =
     join_all (λ (t : Group). length t.ligatures ≤ tally t.set es) (λ (t : Group). length t.ligatures ≤ tally t.set (e ∷ es)) e (groups es)
@@ -68,7 +68,7 @@ tally_of_later k i (t ∷ ts) lt =
     let c = tally_of_later k (suc i) ts (omega arith) in
     omega arith
 
-tally_of_sets : (n k i : ℕ) (ts : List LigatureSet) → 0 < n → All (λ (t : LigatureSet). length t.ligatures < n) ts → tally k (sets_from i ts) < n
+tally_of_sets : (n k i : ℕ) (ts : List LigatureSet) → 0 < n → AllByRecursion (λ (t : LigatureSet). length t.ligatures < n) ts → tally k (sets_from i ts) < n
 tally_of_sets n k i [] pos h = omega arith
 tally_of_sets n k i (t ∷ ts) pos h =
     let a = tally_append k (entries_from i 0 t t.ligatures) (sets_from (suc i) ts) in
@@ -84,7 +84,7 @@ tally_of_sets n k i (t ∷ ts) pos h =
     omega arith)
     (cases_eq i k)
 
-tally_of_parts : (n : ℕ) (ps : List (List Entry)) → ((i : ℕ) → tally i (whole ps) < n) → All (λ (p : List Entry). (i : ℕ) → tally i p < n) ps
+tally_of_parts : (n : ℕ) (ps : List (List Entry)) → ((i : ℕ) → tally i (whole ps) < n) → AllByRecursion (λ (p : List Entry). (i : ℕ) → tally i p < n) ps
 tally_of_parts n [] h = tt
 tally_of_parts n (p ∷ ps) h = (
   λ i. let a = tally_append i p (whole ps) in let b = h i in omega arith,
@@ -92,20 +92,20 @@ tally_of_parts n (p ∷ ps) h = (
 )
 
 -- WHAT HOLDS OF EACH LIGATURE of a subtable holds of each entry, and of each in a group
-entries_from_all : (P : Ligature → Type 0) (i j : ℕ) (t : LigatureSet) (gs : List Ligature) → All P gs → All (λ (e : Entry). P e.ligature) (entries_from i j t gs)
+entries_from_all : (P : Ligature → Type 0) (i j : ℕ) (t : LigatureSet) (gs : List Ligature) → AllByRecursion P gs → AllByRecursion (λ (e : Entry). P e.ligature) (entries_from i j t gs)
 entries_from_all P i j t [] h = tt
 entries_from_all P i j t (g ∷ gs) h = (h.0, entries_from_all P i (suc j) t gs h.1)
 
-pub entries_all : (P : Ligature → Type 0) (i : ℕ) (ts : List LigatureSet) → All (λ (t : LigatureSet). All P t.ligatures) ts → All (λ (e : Entry). P e.ligature) (sets_from i ts)
+pub entries_all : (P : Ligature → Type 0) (i : ℕ) (ts : List LigatureSet) → AllByRecursion (λ (t : LigatureSet). AllByRecursion P t.ligatures) ts → AllByRecursion (λ (e : Entry). P e.ligature) (sets_from i ts)
 entries_all P i [] h = tt
 entries_all P i (t ∷ ts) h =
     All-append (λ (e : Entry). P e.ligature) (entries_from i 0 t t.ligatures) (sets_from (suc i) ts)
     (entries_from_all P i 0 t t.ligatures h.0) (entries_all P (suc i) ts h.1)
 
-pub groups-all : (P : Ligature → Type 0) (es : List Entry) → All (λ (e : Entry). P e.ligature) es → All (λ (t : Group). All P t.ligatures) (groups es)
+pub groups-all : (P : Ligature → Type 0) (es : List Entry) → AllByRecursion (λ (e : Entry). P e.ligature) es → AllByRecursion (λ (t : Group). AllByRecursion P t.ligatures) (groups es)
 groups-all P [] h = tt
 groups-all P (e ∷ es) h =
-    join_all (λ (t : Group). All P t.ligatures) (λ (t : Group). All P t.ligatures) e (groups es)
+    join_all (λ (t : Group). AllByRecursion P t.ligatures) (λ (t : Group). AllByRecursion P t.ligatures) e (groups es)
     (h.0, tt) (λ t q k. (h.0, k)) (λ t k. k) (groups-all P es h.1)
 
 length_entries_from : (i j : ℕ) (t : LigatureSet) (gs : List Ligature) → length (entries_from i j t gs) ≡ length gs
@@ -115,11 +115,11 @@ length_entries_from i j t (g ∷ gs) = ap suc (length_entries_from i (suc j) t g
 -- SETS OF A PART
 pub record GoodPart (p : List Entry) : Type 0 where
   pub some : 0 < length p
-  pub ligatures : All (λ (e : Entry). GoodLigature e.ligature) p
+  pub ligatures : AllByRecursion (λ (e : Entry). GoodLigature e.ligature) p
   pub few : (i : ℕ) → tally i p < 65536
 
 abbrev pub GoodSets : List LigatureSet → Type 0
-GoodSets ts = (0 < length ts) × All GoodSet ts
+GoodSets ts = (0 < length ts) × AllByRecursion GoodSet ts
 
 made_some : (own : ℕ → Bool) (fresh : ℕ) (p : List Entry) → 0 < length p → 0 < length (sets_of own fresh (groups p))
 made_some own fresh [] h = absurd (omega arith)
@@ -130,14 +130,14 @@ made_some own fresh (e ∷ es) h =
     omega arith
 
 abbrev GoodLigatures : List Ligature → Type 0
-GoodLigatures gs = ((0 < length gs) × (length gs < 65536)) × All GoodLigature gs
+GoodLigatures gs = ((0 < length gs) × (length gs < 65536)) × AllByRecursion GoodLigature gs
 
 pub made_good : (own : ℕ → Bool) (fresh : ℕ) (p : List Entry) → GoodPart p → GoodSets (sets_of own fresh (groups p))
 made_good own fresh p h =
     let few = All-weaker (λ (t : Group). length t.ligatures ≤ tally t.set p) (λ (t : Group). length t.ligatures < 65536)
     (λ t k. let b = h.few t.set in omega arith) (groups p) (groups_tally p) in
     let counts = all_both (λ (t : Group). 0 < length t.ligatures) (λ (t : Group). length t.ligatures < 65536) (groups p) (groups_filled p) few in
-    let all = all_both (λ (t : Group). (0 < length t.ligatures) × (length t.ligatures < 65536)) (λ (t : Group). All GoodLigature t.ligatures) (groups p)
+    let all = all_both (λ (t : Group). (0 < length t.ligatures) × (length t.ligatures < 65536)) (λ (t : Group). AllByRecursion GoodLigature t.ligatures) (groups p)
     counts (groups-all GoodLigature p h.ligatures) in (
       made_some own fresh p h.some,
       All-weaker (λ (t : LigatureSet). GoodLigatures t.ligatures) GoodSet (λ t k. record { some = k.0.0; count = k.0.1; ligatures = k.1 }) (sets_of own fresh (groups p))
@@ -156,21 +156,21 @@ some_in_sets (t ∷ ts) h =
 pub entries_some : (s : Subtable) → GoodSets s.sets → 0 < length (entries s)
 entries_some s h = some_in_sets s.sets h
 
-good_parts : (ceiling : ℕ) (s : Subtable) → GoodSets s.sets → All (Fits ceiling) (entries s) → All GoodPart (parts ceiling (entries s))
+good_parts : (ceiling : ℕ) (s : Subtable) → GoodSets s.sets → AllByRecursion (Fits ceiling) (entries s) → AllByRecursion GoodPart (parts ceiling (entries s))
 good_parts c s h f =
     let w = joined_parts c (entries s) in
-    let gs = entries_all GoodLigature 0 s.sets (All-weaker GoodSet (λ (t : LigatureSet). All GoodLigature t.ligatures) (λ t k. k.ligatures) s.sets h.1) in
-    let a = all_whole (λ (e : Entry). GoodLigature e.ligature) (parts c (entries s)) (subst (λ (es : List Entry). All (λ (e : Entry). GoodLigature e.ligature) es) (sym w) gs) in
+    let gs = entries_all GoodLigature 0 s.sets (All-weaker GoodSet (λ (t : LigatureSet). AllByRecursion GoodLigature t.ligatures) (λ t k. k.ligatures) s.sets h.1) in
+    let a = all_whole (λ (e : Entry). GoodLigature e.ligature) (parts c (entries s)) (subst (λ (es : List Entry). AllByRecursion (λ (e : Entry). GoodLigature e.ligature) es) (sym w) gs) in
     let counts = All-weaker GoodSet (λ (t : LigatureSet). length t.ligatures < 65536) (λ t k. k.count) s.sets h.1 in
     let b = tally_of_parts 65536 (parts c (entries s))
     (λ i. subst (λ (es : List Entry). tally i es < 65536) (sym w) (tally_of_sets 65536 i 0 s.sets (omega arith) counts)) in
     let d = parts_full c (entries s) (entries_some s h) f in
-    All-weaker (λ (p : List Entry). (0 < length p) × (All (λ (e : Entry). GoodLigature e.ligature) p × ((i : ℕ) → tally i p < 65536))) GoodPart
+    All-weaker (λ (p : List Entry). (0 < length p) × (AllByRecursion (λ (e : Entry). GoodLigature e.ligature) p × ((i : ℕ) → tally i p < 65536))) GoodPart
     (λ p k. record { some = k.0; ligatures = k.1.0; few = k.1.1 }) (parts c (entries s))
-    (all_both (λ (p : List Entry). 0 < length p) (λ (p : List Entry). All (λ (e : Entry). GoodLigature e.ligature) p × ((i : ℕ) → tally i p < 65536)) (parts c (entries s)) d
-    (all_both (λ (p : List Entry). All (λ (e : Entry). GoodLigature e.ligature) p) (λ (p : List Entry). (i : ℕ) → tally i p < 65536) (parts c (entries s)) a b))
+    (all_both (λ (p : List Entry). 0 < length p) (λ (p : List Entry). AllByRecursion (λ (e : Entry). GoodLigature e.ligature) p × ((i : ℕ) → tally i p < 65536)) (parts c (entries s)) d
+    (all_both (λ (p : List Entry). AllByRecursion (λ (e : Entry). GoodLigature e.ligature) p) (λ (p : List Entry). (i : ℕ) → tally i p < 65536) (parts c (entries s)) a b))
 
-pub divided_sets_good : (ceiling : ℕ) (wrapped : Bool) (wrote : ℕ → List ℕ) (fresh : ℕ) (s : Subtable) → GoodSets s.sets → All (Fits ceiling) (entries s) → All (λ (t : Subtable). GoodSets t.sets) (divided wrapped wrote fresh s (parts ceiling (entries s)))
+pub divided_sets_good : (ceiling : ℕ) (wrapped : Bool) (wrote : ℕ → List ℕ) (fresh : ℕ) (s : Subtable) → GoodSets s.sets → AllByRecursion (Fits ceiling) (entries s) → AllByRecursion (λ (t : Subtable). GoodSets t.sets) (divided wrapped wrote fresh s (parts ceiling (entries s)))
 divided_sets_good c wrapped wrote fresh s h f =
     divided-all GoodSets GoodPart made_good wrapped wrote fresh s (parts c (entries s)) (parts_some c (entries s)) (joined_parts c (entries s)) (λ _. h) (good_parts c s h f)
 
@@ -178,15 +178,15 @@ divided_sets_good c wrapped wrote fresh s h f =
 abbrev Renewed : (ℕ → List ℕ) → Subtable → Type 0
 Renewed wrote t = t.covering ≡ wrote t.coverage
 
-pieces-renewed : (wrote : ℕ → List ℕ) (kept : List Entry) (fresh : ℕ) (ps : List (List Entry)) → All (Renewed wrote) (pieces wrote kept fresh ps)
+pieces-renewed : (wrote : ℕ → List ℕ) (kept : List Entry) (fresh : ℕ) (ps : List (List Entry)) → AllByRecursion (Renewed wrote) (pieces wrote kept fresh ps)
 pieces-renewed wrote kept fresh [] = tt
 pieces-renewed wrote kept fresh (p ∷ ps) = (refl, pieces-renewed wrote kept (fresh + 2 + new_sets (comes_here kept ps) (groups p)) ps)
 
-pub divided-renewed : (wrapped : Bool) (wrote : ℕ → List ℕ) (fresh : ℕ) (s : Subtable) (kept p : List Entry) (ps : List (List Entry)) → All (Renewed wrote) (divided wrapped wrote fresh s (kept ∷ p ∷ ps))
+pub divided-renewed : (wrapped : Bool) (wrote : ℕ → List ℕ) (fresh : ℕ) (s : Subtable) (kept p : List Entry) (ps : List (List Entry)) → AllByRecursion (Renewed wrote) (divided wrapped wrote fresh s (kept ∷ p ∷ ps))
 divided-renewed wrapped wrote fresh s kept p ps = (
   refl,
   cond_both wrapped (extended (after_pieces kept fresh (p ∷ ps)) (pieces wrote kept fresh (p ∷ ps))) (pieces wrote kept fresh (p ∷ ps))
-      (λ (u : List Subtable). All (Renewed wrote) u)
+      (λ (u : List Subtable). AllByRecursion (Renewed wrote) u)
       (λ _. extended_all (Renewed wrote) (Renewed wrote) (λ e t k. k) (after_pieces kept fresh (p ∷ ps)) (pieces wrote kept fresh (p ∷ ps)) (pieces-renewed wrote kept fresh (p ∷ ps)))
       (λ _. pieces-renewed wrote kept fresh (p ∷ ps)),
 )
@@ -195,21 +195,21 @@ divided-renewed wrapped wrote fresh s kept p ps = (
 abbrev Extended : Bool → Subtable → Type 0
 Extended b t = is_some t.extension ≡ b
 
-pieces_plain : (wrote : ℕ → List ℕ) (kept : List Entry) (fresh : ℕ) (ps : List (List Entry)) → All (Extended false) (pieces wrote kept fresh ps)
+pieces_plain : (wrote : ℕ → List ℕ) (kept : List Entry) (fresh : ℕ) (ps : List (List Entry)) → AllByRecursion (Extended false) (pieces wrote kept fresh ps)
 pieces_plain wrote kept fresh [] = tt
 pieces_plain wrote kept fresh (p ∷ ps) = (refl, pieces_plain wrote kept (fresh + 2 + new_sets (comes_here kept ps) (groups p)) ps)
 
-pub extended_extended : (fresh : ℕ) (ss : List Subtable) → All (Extended true) (extended fresh ss)
+pub extended_extended : (fresh : ℕ) (ss : List Subtable) → AllByRecursion (Extended true) (extended fresh ss)
 extended_extended fresh [] = tt
 extended_extended fresh (s ∷ ss) = (refl, extended_extended (suc fresh) ss)
 
-divided_extended : (wrapped : Bool) (wrote : ℕ → List ℕ) (fresh : ℕ) (s : Subtable) (ps : List (List Entry)) → Extended wrapped s → All (Extended wrapped) (divided wrapped wrote fresh s ps)
+divided_extended : (wrapped : Bool) (wrote : ℕ → List ℕ) (fresh : ℕ) (s : Subtable) (ps : List (List Entry)) → Extended wrapped s → AllByRecursion (Extended wrapped) (divided wrapped wrote fresh s ps)
 divided_extended wrapped wrote fresh s [] h = (h, tt)
 divided_extended wrapped wrote fresh s (kept ∷ []) h = (h, tt)
 divided_extended true wrote fresh s (kept ∷ p ∷ ps) h = (h, extended_extended (after_pieces kept fresh (p ∷ ps)) (pieces wrote kept fresh (p ∷ ps)))
 divided_extended false wrote fresh s (kept ∷ p ∷ ps) h = (h, pieces_plain wrote kept fresh (p ∷ ps))
 
-pub split_all_extended : (ceiling : ℕ) (wrapped : Bool) (wrote : ℕ → List ℕ) (fresh : ℕ) (ss : List Subtable) → All (Extended wrapped) ss → All (Extended wrapped) (split_all ceiling wrapped wrote fresh ss)
+pub split_all_extended : (ceiling : ℕ) (wrapped : Bool) (wrote : ℕ → List ℕ) (fresh : ℕ) (ss : List Subtable) → AllByRecursion (Extended wrapped) ss → AllByRecursion (Extended wrapped) (split_all ceiling wrapped wrote fresh ss)
 split_all_extended c wrapped wrote fresh [] h = tt
 split_all_extended c wrapped wrote fresh (s ∷ ss) h =
     All-append (Extended wrapped) (divided wrapped wrote fresh s (parts c (entries s))) (split_all c wrapped wrote (after_divided wrapped fresh (parts c (entries s))) ss)
@@ -217,7 +217,7 @@ split_all_extended c wrapped wrote fresh (s ∷ ss) h =
     (split_all_extended c wrapped wrote (after_divided wrapped fresh (parts c (entries s))) ss h.1)
 
 abbrev Kinds : Bool → ℕ → List Subtable → Type 0
-Kinds b kind ss = cond b (All (λ (s : Subtable). is_some s.extension ≡ true) ss) ((kind ≡ 4) × All (λ (s : Subtable). is_some s.extension ≡ false) ss)
+Kinds b kind ss = cond b (AllByRecursion (λ (s : Subtable). is_some s.extension ≡ true) ss) ((kind ≡ 4) × AllByRecursion (λ (s : Subtable). is_some s.extension ≡ false) ss)
 
 kinds_kept : (ceiling : ℕ) (b : Bool) (kind : ℕ) (wrote : ℕ → List ℕ) (fresh : ℕ) (ss : List Subtable) → Kinds b kind ss → Kinds b kind (split_all ceiling b wrote fresh ss)
 kinds_kept c true kind wrote fresh ss h = split_all_extended c true wrote fresh ss h
@@ -225,7 +225,7 @@ kinds_kept c false kind wrote fresh ss h = (h.0, split_all_extended c false wrot
 
 -- LOOKUPS
 module _ (caps : Capacities) (meaning : List ℕ → Option Meant) (span : List ℕ → ℕ) (ceiling : ℕ) (wrapped : Bool) (wrote : ℕ → List ℕ) where
-  divided_good_as : (fresh : ℕ) (s : Subtable) (ps : List (List Entry)) → GoodSubtable meaning s → All (λ (t : Subtable). GoodSets t.sets) (divided wrapped wrote fresh s ps) → All (WroteWell meaning span wrote) (renewed wrapped wrote fresh s ps) → All (GoodSubtable meaning) (divided wrapped wrote fresh s ps)
+  divided_good_as : (fresh : ℕ) (s : Subtable) (ps : List (List Entry)) → GoodSubtable meaning s → AllByRecursion (λ (t : Subtable). GoodSets t.sets) (divided wrapped wrote fresh s ps) → AllByRecursion (WroteWell meaning span wrote) (renewed wrapped wrote fresh s ps) → AllByRecursion (GoodSubtable meaning) (divided wrapped wrote fresh s ps)
   divided_good_as fresh s [] good sets well = (good, tt)
   divided_good_as fresh s (kept ∷ []) good sets well = (good, tt)
   divided_good_as fresh s (kept ∷ p ∷ ps) good sets well =
@@ -241,10 +241,10 @@ module _ (caps : Capacities) (meaning : List ℕ → Option Meant) (span : List 
       (all_both (λ (t : Subtable). GoodSets t.sets) (Renewed wrote) (divided wrapped wrote fresh s (kept ∷ p ∷ ps)) sets (divided-renewed wrapped wrote fresh s kept p ps))
       well)
 
-  pub divided_good : (fresh : ℕ) (s : Subtable) → GoodSubtable meaning s → All (Fits ceiling) (entries s) → All (WroteWell meaning span wrote) (renewed wrapped wrote fresh s (parts ceiling (entries s))) → All (GoodSubtable meaning) (divided wrapped wrote fresh s (parts ceiling (entries s)))
+  pub divided_good : (fresh : ℕ) (s : Subtable) → GoodSubtable meaning s → AllByRecursion (Fits ceiling) (entries s) → AllByRecursion (WroteWell meaning span wrote) (renewed wrapped wrote fresh s (parts ceiling (entries s))) → AllByRecursion (GoodSubtable meaning) (divided wrapped wrote fresh s (parts ceiling (entries s)))
   divided_good fresh s good f well = divided_good_as fresh s (parts ceiling (entries s)) good (divided_sets_good ceiling wrapped wrote fresh s (good.some, good.sets) f) well
 
-  pub split_all_good : (fresh : ℕ) (ss : List Subtable) → All (GoodSubtable meaning) ss → All (λ (s : Subtable). All (Fits ceiling) (entries s)) ss → All (WroteWell meaning span wrote) (all_renewed ceiling wrapped wrote fresh ss) → All (GoodSubtable meaning) (split_all ceiling wrapped wrote fresh ss)
+  pub split_all_good : (fresh : ℕ) (ss : List Subtable) → AllByRecursion (GoodSubtable meaning) ss → AllByRecursion (λ (s : Subtable). AllByRecursion (Fits ceiling) (entries s)) ss → AllByRecursion (WroteWell meaning span wrote) (all_renewed ceiling wrapped wrote fresh ss) → AllByRecursion (GoodSubtable meaning) (split_all ceiling wrapped wrote fresh ss)
   split_all_good fresh [] good f well = tt
   split_all_good fresh (s ∷ ss) good f well =
       let next : ℕ = after_divided wrapped fresh (parts ceiling (entries s)) in
@@ -278,16 +278,16 @@ wrapping_keeps_lookups_well_formed_lem meaning fresh l good =
 pub accepted_splits_keep_lookups_well_formed_lem : AcceptedSplitsKeepLookupsWellFormed
 accepted_splits_keep_lookups_well_formed_lem caps meaning span wrote m n ceiling c h good well =
     let a = split_made caps wrote m n ceiling c h in
-    subst (λ (after : Model). All (GoodLookup meaning) after.lookups) (sym a.made)
+    subst (λ (after : Model). AllByRecursion (GoodLookup meaning) after.lookups) (sym a.made)
     (All-set (GoodLookup meaning) m.lookups n (split_lookup ceiling wrote m.taken.vertices a.lookup)
     (splitting_keeps_lookups_well_formed_lem caps meaning span ceiling wrote m.taken.vertices a.lookup (all-nth (GoodLookup meaning) m.lookups n a.lookup a.found good) a.short a.few
-    (subst (λ (o : Option Lookup). All (WroteWell meaning span wrote) (renewed_in ceiling wrote m.taken.vertices o)) a.found well))
+    (subst (λ (o : Option Lookup). AllByRecursion (WroteWell meaning span wrote) (renewed_in ceiling wrote m.taken.vertices o)) a.found well))
     good)
 
 pub accepted_wraps_keep_lookups_well_formed_lem : AcceptedWrapsKeepLookupsWellFormed
 accepted_wraps_keep_lookups_well_formed_lem caps meaning m n c h good =
     let a = wrap_made caps m n c h in
-    subst (λ (after : Model). All (GoodLookup meaning) after.lookups) (sym a.made)
+    subst (λ (after : Model). AllByRecursion (GoodLookup meaning) after.lookups) (sym a.made)
     (All-set (GoodLookup meaning) m.lookups n (wrap_lookup m.taken.vertices a.lookup)
     (wrapping_keeps_lookups_well_formed_lem meaning m.taken.vertices a.lookup (all-nth (GoodLookup meaning) m.lookups n a.lookup a.found good))
     good)

@@ -1,6 +1,6 @@
 -- Whatever is told of each ligature and the first glyph of its set, a division keeps what all tell, in order.
 use Rattle.std.proofs.Common.{◌≡◌, ℕ, suc, ◌+◌, ◌<◌, Bool, true, cond, eqb, List, [], ◌∷◌, ◌++◌, map, length, get_or, sym, refl, ap, ◌∙◌, subst, arith}
-use Rattle.std.specs.List.{flat_map, AllByRecursion as All}
+use Rattle.std.specs.List.{flat_map, AllByRecursion}
 use Rattle.std.proofs.lemmas.List.{append-nil, map-append}
 use Rattle.std.proofs.ByRecursion.{All-append, All-weaker}
 use Rattle.std.proofs.lemmas.Bool.{eqb-true, cond_both}
@@ -14,11 +14,11 @@ use Rattle.model.proofs.PartsRule.{whole, joined_parts}
 
 -- THE FIRST GLYPH OF AN ENTRY is known by the index of its set
 module _ (P : Entry → Type 0) (t : LigatureSet) (i : ℕ) where
-  pub each_of_set : ((j : ℕ) (g : Ligature) → P (record { set = i; place = j; owner = t.vertex; first = t.first; ligature = g })) → (j : ℕ) (gs : List Ligature) → All P (entries_from i j t gs)
+  pub each_of_set : ((j : ℕ) (g : Ligature) → P (record { set = i; place = j; owner = t.vertex; first = t.first; ligature = g })) → (j : ℕ) (gs : List Ligature) → AllByRecursion P (entries_from i j t gs)
   each_of_set h j [] = tt
   each_of_set h j (g ∷ gs) = (h j g, each_of_set h (suc j) gs)
 
-first_from : (of : ℕ → ℕ) (i : ℕ) (ts : List LigatureSet) → ((k : ℕ) → k < length ts → of (i + k) ≡ get_or (map (λ (t : LigatureSet). t.first) ts) k 0) → All (λ (e : Entry). e.first ≡ of e.set) (sets_from i ts)
+first_from : (of : ℕ → ℕ) (i : ℕ) (ts : List LigatureSet) → ((k : ℕ) → k < length ts → of (i + k) ≡ get_or (map (λ (t : LigatureSet). t.first) ts) k 0) → AllByRecursion (λ (e : Entry). e.first ≡ of e.set) (sets_from i ts)
 first_from of i [] h = tt
 first_from of i (t ∷ ts) h =
     let here : of i ≡ t.first = ap of (let z : i ≡ i + 0 = omega arith in z) ∙ h 0 (omega arith) in
@@ -30,7 +30,7 @@ first_from of i (t ∷ ts) h =
 abbrev pub first_of : Subtable → ℕ → ℕ
 first_of s i = get_or (glyphs_meant s) i 0
 
-pub first_of_entries : (s : Subtable) → All (λ (e : Entry). e.first ≡ first_of s e.set) (entries s)
+pub first_of_entries : (s : Subtable) → AllByRecursion (λ (e : Entry). e.first ≡ first_of s e.set) (entries s)
 first_of_entries s = first_from (first_of s) 0 s.sets (λ k lt. ap (first_of s) (let z : 0 + k ≡ k = omega arith in z))
 
 module _ {X : Type 0} (f : ℕ → Ligature → X) where
@@ -68,25 +68,25 @@ module _ {X : Type 0} (f : ℕ → Ligature → X) where
   abbrev AgreeGroup : (ℕ → Ligature → X) → Group → Type 0
   AgreeGroup by t = (g : Ligature) → f t.first g ≡ by t.set g
 
-  join_agrees : (by : ℕ → Ligature → X) (e : Entry) (ts : List Group) → Agree by e → All (AgreeGroup by) ts → All (AgreeGroup by) (join_group e ts)
+  join_agrees : (by : ℕ → Ligature → X) (e : Entry) (ts : List Group) → Agree by e → AllByRecursion (AgreeGroup by) ts → AllByRecursion (AgreeGroup by) (join_group e ts)
   join_agrees by e [] a b = (a, tt)
   join_agrees by e (t ∷ ts) a b =
-      cond_both (eqb e.set t.set) (with_first e.ligature t ∷ ts) (alone e ∷ t ∷ ts) (λ (u : List Group). All (AgreeGroup by) u)
+      cond_both (eqb e.set t.set) (with_first e.ligature t ∷ ts) (alone e ∷ t ∷ ts) (λ (u : List Group). AllByRecursion (AgreeGroup by) u)
       (λ q. (b.0, b.1))
       (λ q. (a, b))
 
-  join_tells : (by : ℕ → Ligature → X) (e : Entry) (ts : List Group) → Agree by e → All (AgreeGroup by) ts → flat_map group_tells (join_group e ts) ≡ tell e ∷ flat_map group_tells ts
+  join_tells : (by : ℕ → Ligature → X) (e : Entry) (ts : List Group) → Agree by e → AllByRecursion (AgreeGroup by) ts → flat_map group_tells (join_group e ts) ≡ tell e ∷ flat_map group_tells ts
   join_tells by e [] a b = refl
   join_tells by e (t ∷ ts) a b =
       cond_both (eqb e.set t.set) (with_first e.ligature t ∷ ts) (alone e ∷ t ∷ ts) (λ (u : List Group). flat_map group_tells u ≡ tell e ∷ flat_map group_tells (t ∷ ts))
       (λ q. ap (λ x. x ∷ flat_map group_tells (t ∷ ts)) (b.0 e.ligature ∙ ap (λ i. by i e.ligature) (sym (eqb-true e.set t.set q)) ∙ sym (a e.ligature)))
       (λ q. refl)
 
-  groups_agree : (by : ℕ → Ligature → X) (es : List Entry) → All (Agree by) es → All (AgreeGroup by) (groups es)
+  groups_agree : (by : ℕ → Ligature → X) (es : List Entry) → AllByRecursion (Agree by) es → AllByRecursion (AgreeGroup by) (groups es)
   groups_agree by [] h = tt
   groups_agree by (e ∷ es) h = join_agrees by e (groups es) h.0 (groups_agree by es h.1)
 
-  pub groups-tell : (by : ℕ → Ligature → X) (es : List Entry) → All (Agree by) es → flat_map group_tells (groups es) ≡ map tell es
+  pub groups-tell : (by : ℕ → Ligature → X) (es : List Entry) → AllByRecursion (Agree by) es → flat_map group_tells (groups es) ≡ map tell es
   groups-tell by [] h = refl
   groups-tell by (e ∷ es) h = join_tells by e (groups es) h.0 (groups_agree by es h.1) ∙ ap (λ u. tell e ∷ u) (groups-tell by es h.1)
 
@@ -101,11 +101,11 @@ module _ {X : Type 0} (f : ℕ → Ligature → X) where
       (λ q. ap (λ u. group_tells t ++ u) (sets_of_tell own fresh ts))
       (λ q. ap (λ u. group_tells t ++ u) (sets_of_tell own (suc fresh) ts))
 
-  pub made_tell : (by : ℕ → Ligature → X) (own : ℕ → Bool) (fresh : ℕ) (es : List Entry) → All (Agree by) es → flat_map set_tells (sets_of own fresh (groups es)) ≡ map tell es
+  pub made_tell : (by : ℕ → Ligature → X) (own : ℕ → Bool) (fresh : ℕ) (es : List Entry) → AllByRecursion (Agree by) es → flat_map set_tells (sets_of own fresh (groups es)) ≡ map tell es
   made_tell by own fresh es h = sets_of_tell own fresh (groups es) ∙ groups-tell by es h
 
   -- pieces
-  pieces-tell : (by : ℕ → Ligature → X) (wrote : ℕ → List ℕ) (kept : List Entry) (fresh : ℕ) (ps : List (List Entry)) → All (All (Agree by)) ps → flat_map subtable_tells (pieces wrote kept fresh ps) ≡ map tell (whole ps)
+  pieces-tell : (by : ℕ → Ligature → X) (wrote : ℕ → List ℕ) (kept : List Entry) (fresh : ℕ) (ps : List (List Entry)) → AllByRecursion (AllByRecursion (Agree by)) ps → flat_map subtable_tells (pieces wrote kept fresh ps) ≡ map tell (whole ps)
   pieces-tell by wrote kept fresh [] h = refl
   pieces-tell by wrote kept fresh (p ∷ ps) h =
       ap (λ u. u ++ flat_map subtable_tells (pieces wrote kept (fresh + 2 + new_sets (comes_here kept ps) (groups p)) ps)) (made_tell by (comes_here kept ps) (fresh + 2) p h.0)
@@ -116,11 +116,11 @@ module _ {X : Type 0} (f : ℕ → Ligature → X) where
   extended_tell fresh [] = refl
   extended_tell fresh (s ∷ ss) = ap (λ u. subtable_tells s ++ u) (extended_tell (suc fresh) ss)
 
-  divided_tell_by : (by : ℕ → Ligature → X) (wrapped : Bool) (wrote : ℕ → List ℕ) (fresh : ℕ) (s : Subtable) (ps : List (List Entry)) → whole ps ≡ entries s → All (Agree by) (entries s) → flat_map subtable_tells (divided wrapped wrote fresh s ps) ≡ subtable_tells s
+  divided_tell_by : (by : ℕ → Ligature → X) (wrapped : Bool) (wrote : ℕ → List ℕ) (fresh : ℕ) (s : Subtable) (ps : List (List Entry)) → whole ps ≡ entries s → AllByRecursion (Agree by) (entries s) → flat_map subtable_tells (divided wrapped wrote fresh s ps) ≡ subtable_tells s
   divided_tell_by by wrapped wrote fresh s [] w a = append-nil (subtable_tells s)
   divided_tell_by by wrapped wrote fresh s (kept ∷ []) w a = append-nil (subtable_tells s)
   divided_tell_by by wrapped wrote fresh s (kept ∷ p ∷ ps) w a =
-      let b = all_whole (Agree by) (kept ∷ p ∷ ps) (subst (λ (u : List Entry). All (Agree by) u) (sym w) a) in
+      let b = all_whole (Agree by) (kept ∷ p ∷ ps) (subst (λ (u : List Entry). AllByRecursion (Agree by) u) (sym w) a) in
       let rest : flat_map subtable_tells (cond wrapped (extended (after_pieces kept fresh (p ∷ ps)) (pieces wrote kept fresh (p ∷ ps))) (pieces wrote kept fresh (p ∷ ps))) ≡ map tell (whole (p ∷ ps)) =
       cond_both wrapped (extended (after_pieces kept fresh (p ∷ ps)) (pieces wrote kept fresh (p ∷ ps))) (pieces wrote kept fresh (p ∷ ps))
       (λ (u : List Subtable). flat_map subtable_tells u ≡ map tell (whole (p ∷ ps)))

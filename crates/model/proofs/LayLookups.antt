@@ -1,6 +1,6 @@
 -- The tables of a written lookup, part by part: where they stand, and that no vertex stands twice.
 use Rattle.std.proofs.Common.{◌≡◌, ℕ, ◌+◌, ◌*◌, ◌≤◌, List, [], ◌∷◌, ◌++◌, map, length, Some, None, Option, ap, ◌∙◌, arith, length-append}
-use Rattle.std.specs.List.{flat_map, AllByRecursion as All}
+use Rattle.std.specs.List.{flat_map, AllByRecursion}
 use Rattle.std.specs.Option.{option_to_list}
 use Rattle.std.proofs.ByRecursion.{All-append, All-map}
 use Rattle.std.proofs.lemmas.List.{length-map, map-append}
@@ -39,7 +39,7 @@ fits_lookup l =
     let m = length-map l.subtables (λ (s : Subtable). head s) in
     slots_fit 6 (size (lookup_table l)) (map (λ (s : Subtable). head s) l.subtables) (omega arith)
 
-fits_extension : (o : Option ℕ) (v : ℕ) → All Fits (extension_walk o v)
+fits_extension : (o : Option ℕ) (v : ℕ) → AllByRecursion Fits (extension_walk o v)
 fits_extension None v = tt
 fits_extension (Some e) v = ((omega arith, tt), tt)
 
@@ -55,7 +55,7 @@ fits_set c t =
     let m = length-map t.ligatures (λ (g : Ligature). g.vertex) in
     slots_fit 2 (size (set_table c t)) (map (λ (g : Ligature). g.vertex) t.ligatures) (omega arith)
 
-fits_order : (s : Subtable) → All Fits (subtable_order s)
+fits_order : (s : Subtable) → AllByRecursion Fits (subtable_order s)
 fits_order s =
     let c = s.coverage in
     let ligatures = λ (t : LigatureSet). All-map Fits (ligature_table c) t.ligatures (all_any (λ (g : Ligature). Fits (ligature_table c g)) (λ g. tt) t.ligatures) in (
@@ -64,17 +64,17 @@ fits_order s =
           (All-map Fits (set_table c) s.sets (all_any (λ (t : LigatureSet). Fits (set_table c t)) (fits_set c) s.sets))
           (All-append Fits (ligature_tables s) (coverage_table s ∷ [])
           (all_joined Fits (λ (t : LigatureSet). map (ligature_table c) t.ligatures) s.sets
-          (all_any (λ (t : LigatureSet). All Fits (map (ligature_table c) t.ligatures)) ligatures s.sets))
+          (all_any (λ (t : LigatureSet). AllByRecursion Fits (map (ligature_table c) t.ligatures)) ligatures s.sets))
           (tt, tt)),
     )
 
-pub fits_written : (l : Lookup) → All Fits (write_order l)
+pub fits_written : (l : Lookup) → AllByRecursion Fits (write_order l)
 fits_written l = (
   fits_lookup l,
   All-append Fits (extensions_of l.subtables) (flat_map subtable_order l.subtables)
       (all_joined Fits (λ (s : Subtable). extension_walk s.extension s.vertex) l.subtables
-      (all_any (λ (s : Subtable). All Fits (extension_walk s.extension s.vertex)) (λ s. fits_extension s.extension s.vertex) l.subtables))
-      (all_joined Fits subtable_order l.subtables (all_any (λ (s : Subtable). All Fits (subtable_order s)) fits_order l.subtables)),
+      (all_any (λ (s : Subtable). AllByRecursion Fits (extension_walk s.extension s.vertex)) (λ s. fits_extension s.extension s.vertex) l.subtables))
+      (all_joined Fits subtable_order l.subtables (all_any (λ (s : Subtable). AllByRecursion Fits (subtable_order s)) fits_order l.subtables)),
 )
 
 -- as long as told
@@ -139,8 +139,8 @@ module _ (Q : Placed → Type 0) (ss : List Start) (bs : List ℕ) where
     pub end : ℕ
     pub from : low ≤ place
     pub own : Here Q ss bs place (subtable_table s)
-    pub sets : All (λ (t : LigatureSet). Sits Q ss bs place middle (set_table s.coverage t)) s.sets
-    pub ligatures : All (λ (t : LigatureSet). All (λ (g : Ligature). Sits Q ss bs middle end (ligature_table s.coverage g)) t.ligatures) s.sets
+    pub sets : AllByRecursion (λ (t : LigatureSet). Sits Q ss bs place middle (set_table s.coverage t)) s.sets
+    pub ligatures : AllByRecursion (λ (t : LigatureSet). AllByRecursion (λ (g : Ligature). Sits Q ss bs middle end (ligature_table s.coverage g)) t.ligatures) s.sets
     pub coverage : Here Q ss bs end (coverage_table s)
     pub order : middle ≤ end
     pub long : end ≡ place + body_size s
@@ -168,12 +168,12 @@ module _ (Q : Placed → Type 0) (ss : List Start) (bs : List ℕ) where
         order = omega arith;
         long = omega arith;
       } where
-        each_set : (c low high : ℕ) (ts : List LigatureSet) → All (λ (t : LigatureSet). All (Sits Q ss bs low high) (map (ligature_table c) t.ligatures)) ts
-            → All (λ (t : LigatureSet). All (λ (g : Ligature). Sits Q ss bs low high (ligature_table c g)) t.ligatures) ts
+        each_set : (c low high : ℕ) (ts : List LigatureSet) → AllByRecursion (λ (t : LigatureSet). AllByRecursion (Sits Q ss bs low high) (map (ligature_table c) t.ligatures)) ts
+            → AllByRecursion (λ (t : LigatureSet). AllByRecursion (λ (g : Ligature). Sits Q ss bs low high (ligature_table c g)) t.ligatures) ts
         each_set c low high [] a = tt
         each_set c low high (t ∷ ts) a = (all_mapped (Sits Q ss bs low high) (ligature_table c) t.ligatures a.0, each_set c low high ts a.1)
 
-  laid_subtables : (low p : ℕ) (subs : List Subtable) → low ≤ p → Laid Q ss bs p (flat_map subtable_order subs) → All (SubtableLies low) subs
+  laid_subtables : (low p : ℕ) (subs : List Subtable) → low ≤ p → Laid Q ss bs p (flat_map subtable_order subs) → AllByRecursion (SubtableLies low) subs
   laid_subtables low p [] le h = tt
   laid_subtables low p (s ∷ subs) le h = (
     laid_subtable low p s le (laid_front Q ss bs p (subtable_order s) (flat_map subtable_order subs) h),
@@ -183,8 +183,8 @@ module _ (Q : Placed → Type 0) (ss : List Start) (bs : List ℕ) where
   -- the lookup at 0, the extension tables behind it, then the subtables
   pub record LookupLies (l : Lookup) : Type 0 where
     pub own : Here Q ss bs 0 (lookup_table l)
-    pub extensions : All (λ (s : Subtable). All (Sits Q ss bs 0 (size (lookup_table l) + sizes (extensions_of l.subtables))) (extension_walk s.extension s.vertex)) l.subtables
-    pub subtables : All (SubtableLies (size (lookup_table l) + sizes (extensions_of l.subtables))) l.subtables
+    pub extensions : AllByRecursion (λ (s : Subtable). AllByRecursion (Sits Q ss bs 0 (size (lookup_table l) + sizes (extensions_of l.subtables))) (extension_walk s.extension s.vertex)) l.subtables
+    pub subtables : AllByRecursion (SubtableLies (size (lookup_table l) + sizes (extensions_of l.subtables))) l.subtables
 
   pub laid_lookup : (l : Lookup) → Laid Q ss bs 0 (write_order l) → LookupLies l
   laid_lookup l h =
@@ -200,6 +200,6 @@ module _ (Q : Placed → Type 0) (ss : List Start) (bs : List ℕ) where
       }
 
 -- of each lookup whose vertices are distinct, with what else is known of each table
-pub lookup_lies : (Q : Placed → Type 0) (l : Lookup) → Distinct (map vertex_of (lookup_walk l)) → All Q (write_order l) → LookupLies Q (starts_in l) (written l) l
+pub lookup_lies : (Q : Placed → Type 0) (l : Lookup) → Distinct (map vertex_of (lookup_walk l)) → AllByRecursion Q (write_order l) → LookupLies Q (starts_in l) (written l) l
 unfolding written
 lookup_lies Q l d more = laid_lookup Q (starts_in l) (written l) l (laid_whole Q (write_order l) (distinct_order l d) (fits_written l) more)

@@ -1,6 +1,6 @@
 -- Bytes that stand at a place, and tables of values with their slots filled.
 use Rattle.std.proofs.Common.{◌≡◌, ℕ, zero, suc, ◌+◌, ◌-◌, ◌*◌, ◌/◌, ◌%◌, ◌^◌, ◌<◌, ◌≤◌, List, [], ◌∷◌, ◌++◌, map, length, get_or, take, drop, sym, refl, ap, ◌∙◌, append_assoc, arith, length-append}
-use Rattle.std.specs.List.{AllByRecursion as All}
+use Rattle.std.specs.List.{AllByRecursion}
 use Rattle.std.proofs.lemmas.List.{append-nil, get_or-drop, drop-drop, drop_at, take_at}
 use Rattle.std.proofs.ByRecursion.{All-weaker}
 use Rattle.data_bytes.specs.BigEndian.{word16, number_at, put_at, spelled, big_endian}
@@ -67,7 +67,7 @@ module _ (ss : List Start) (v : ℕ) where
   abbrev pub ahead : ℕ → ℕ
   ahead t = start_of ss t - start_of ss v
 
-  pub fill_values : (us ts ws : List ℕ) (p n : ℕ) → 2 * length us ≡ p → length ts ≡ n → All (λ t. ahead t < 65536) ts
+  pub fill_values : (us ts ws : List ℕ) (p n : ℕ) → 2 * length us ≡ p → length ts ≡ n → AllByRecursion (λ t. ahead t < 65536) ts
       → fill_slots ss v (slots_from p ts) (value_bytes (us ++ (zeros n ++ ws))) ≡ value_bytes (us ++ (map ahead ts ++ ws))
   fill_values us [] ws p zero e f a = refl
   fill_values us [] ws p (suc n) e f a = absurd (omega arith)
@@ -82,14 +82,14 @@ module _ (ss : List Start) (v : ℕ) where
       ∙ fill_values (us ++ ahead t ∷ []) ts ws (p + 2) n q (omega arith) a.1
       ∙ ap value_bytes g2
 
-  pub fill_last : (us ts : List ℕ) (p n : ℕ) → 2 * length us ≡ p → length ts ≡ n → All (λ t. ahead t < 65536) ts
+  pub fill_last : (us ts : List ℕ) (p n : ℕ) → 2 * length us ≡ p → length ts ≡ n → AllByRecursion (λ t. ahead t < 65536) ts
       → fill_slots ss v (slots_from p ts) (value_bytes (us ++ zeros n)) ≡ value_bytes (us ++ map ahead ts)
   fill_last us ts p n e f a =
       ap (λ x. fill_slots ss v (slots_from p ts) (value_bytes (us ++ x))) (sym (append-nil (zeros n)))
       ∙ fill_values us ts [] p n e f a
       ∙ ap (λ x. value_bytes (us ++ x)) (append-nil (map ahead ts))
 
-  pub length_fill : (ts : List Slot) (bs : List ℕ) → All (λ (t : Slot). t.position + t.width ≤ length bs) ts → length (fill_slots ss v ts bs) ≡ length bs
+  pub length_fill : (ts : List Slot) (bs : List ℕ) → AllByRecursion (λ (t : Slot). t.position + t.width ≤ length bs) ts → length (fill_slots ss v ts bs) ≡ length bs
   length_fill [] bs a = refl
   length_fill (t ∷ ts) bs a =
       let new = put_at t.width bs t.position (offset ss v t) in
@@ -97,7 +97,7 @@ module _ (ss : List Start) (v : ℕ) where
       length_fill ts new (All-weaker (λ (u : Slot). u.position + u.width ≤ length bs) (λ (u : Slot). u.position + u.width ≤ length new) (λ u le. omega arith) ts a.1) ∙ h
 
 -- slots one behind the other lie within
-pub slots_fit : (p e : ℕ) (ts : List ℕ) → p + 2 * length ts ≤ e → All (λ (t : Slot). t.position + t.width ≤ e) (slots_from p ts)
+pub slots_fit : (p e : ℕ) (ts : List ℕ) → p + 2 * length ts ≤ e → AllByRecursion (λ (t : Slot). t.position + t.width ≤ e) (slots_from p ts)
 slots_fit p e [] h = tt
 slots_fit p e (t ∷ ts) h = (omega arith, slots_fit (p + 2) e ts (omega arith))
 

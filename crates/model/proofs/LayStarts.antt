@@ -1,6 +1,6 @@
 -- Tables laid end to end: each vertex's start is where its table stands, if no vertex stands twice.
 use Rattle.std.proofs.Common.{◌≡◌, ℕ, ◌+◌, ◌<◌, ◌≤◌, eqb, List, [], ◌∷◌, ◌++◌, map, length, sum_by, sym, refl, ◌∙◌, subst, ⊎_elim, append_assoc, add-zero, arith, length-append}
-use Rattle.std.specs.List.{flat_map, AllByRecursion as All}
+use Rattle.std.specs.List.{flat_map, AllByRecursion}
 use Rattle.std.proofs.lemmas.List.Sums.{sum_by-cons}
 use Rattle.std.proofs.lemmas.Bool.{cases_eq, eq-eqb, ne_eqb, cond-true, cond-false}
 use Rattle.model.specs.Tables.{Slot, Placed, vertex_of, count_of}
@@ -27,12 +27,12 @@ sizes_sum (x ∷ xs) = let h = sizes_sum xs in let c = sum_by-cons (λ (p : Plac
 
 -- each slot lies in its table
 abbrev pub Fits : Placed → Type 0
-Fits x = All (λ (t : Slot). t.position + t.width ≤ size x) x.table.slots
+Fits x = AllByRecursion (λ (t : Slot). t.position + t.width ≤ size x) x.table.slots
 
 pub length_filled : (ss : List Start) (x : Placed) → Fits x → length (filled ss x) ≡ size x
 length_filled ss x f = length_fill ss x.vertex x.table.slots x.table.bytes f
 
-pub length_laid : (ss : List Start) (xs : List Placed) → All Fits xs → length (flat_map (filled ss) xs) ≡ sizes xs
+pub length_laid : (ss : List Start) (xs : List Placed) → AllByRecursion Fits xs → length (flat_map (filled ss) xs) ≡ sizes xs
 length_laid ss [] f = refl
 length_laid ss (x ∷ xs) f =
     let a = length-append (filled ss x) (flat_map (filled ss) xs) in
@@ -69,7 +69,7 @@ module _ (Q : Placed → Type 0) (ss : List Start) (bs : List ℕ) where
       let e : p + size x + sizes xs ≡ p + (size x + sizes xs) = omega arith in
       subst (λ (t : ℕ). Laid t ys) e (laid_back (p + size x) xs ys h.1)
 
-  pub laid_sits : (p low high : ℕ) (xs : List Placed) → Laid p xs → low ≤ p → p + sizes xs ≤ high → All (Sits low high) xs
+  pub laid_sits : (p low high : ℕ) (xs : List Placed) → Laid p xs → low ≤ p → p + sizes xs ≤ high → AllByRecursion (Sits low high) xs
   laid_sits p low high [] h a b = tt
   laid_sits p low high (x ∷ xs) h a b =
       let e = h.0.start in (
@@ -89,7 +89,7 @@ module _ (Q : Placed → Type 0) (ss : List Start) (bs : List ℕ) where
       (λ other. i ∙ cond-false (eqb x.vertex v) p (start_of (starts_from (p + size x) xs) v) (ne_eqb x.vertex v other))
       (cases_eq x.vertex v)
 
-  pub laid : (p : ℕ) (q : List ℕ) (xs : List Placed) → bs ≡ q ++ flat_map (filled ss) xs → length q ≡ p → Distinct (map vertex_of xs) → All Fits xs → All Q xs → StartsAs p xs → Laid p xs
+  pub laid : (p : ℕ) (q : List ℕ) (xs : List Placed) → bs ≡ q ++ flat_map (filled ss) xs → length q ≡ p → Distinct (map vertex_of xs) → AllByRecursion Fits xs → AllByRecursion Q xs → StartsAs p xs → Laid p xs
   laid p q [] e l d f m s = tt
   laid p q (x ∷ xs) e l d f m s =
       let o = one_same x.vertex x.vertex refl in
@@ -102,6 +102,6 @@ module _ (Q : Placed → Type 0) (ss : List Start) (bs : List ℕ) where
       )
 
 -- all tables of a list that are laid from 0 on
-pub laid_whole : (Q : Placed → Type 0) (xs : List Placed) → Distinct (map vertex_of xs) → All Fits xs → All Q xs
+pub laid_whole : (Q : Placed → Type 0) (xs : List Placed) → Distinct (map vertex_of xs) → AllByRecursion Fits xs → AllByRecursion Q xs
     → Laid Q (starts_from 0 xs) (flat_map (filled (starts_from 0 xs)) xs) 0 xs
 laid_whole Q xs d f m = laid Q (starts_from 0 xs) (flat_map (filled (starts_from 0 xs)) xs) 0 [] xs refl refl d f m (λ v some. refl)

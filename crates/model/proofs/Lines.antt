@@ -3,7 +3,7 @@ use Rattle.std.proofs.Common.{◌≡◌, ℕ, zero, suc, ◌≤◌, false, cond,
 use Rattle.std.proofs.lemmas.List.{map-append}
 use Rattle.std.proofs.lemmas.Bool.{both_ways, cases_Bool, cond-true, cond-false}
 use Rattle.std.proofs.ByRecursion.{All-weaker}
-use Rattle.std.specs.List.{flat_map, AllByRecursion as All}
+use Rattle.std.specs.List.{flat_map, AllByRecursion}
 use Rattle.refusals.specs.declared.Refusal.{Refusal}
 use Rattle.refusals.specs.declared.Refusal.TheVariants.{OffsetOverflow, ShortBuffer, NoPlace}
 use Rattle.data_bytes.specs.Values.{value_bytes}
@@ -121,7 +121,7 @@ rule_same meaning m n g l k good is e =
 
 -- WHAT IS KNOWN OF ONE CALL
 abbrev pub Sizes : ℕ → Lookup → Type 0
-Sizes b l = All (λ (s : Subtable). subtable_size s ≤ b) l.subtables
+Sizes b l = AllByRecursion (λ (s : Subtable). subtable_size s ≤ b) l.subtables
 
 pub record Known (caps : Capacities) (meaning : List ℕ → Option Meant) (span : List ℕ → ℕ) : Type 0 where
   pub split_rules : (c : ℕ) (given : ℕ → List ℕ) (fresh : ℕ) (l : Lookup) → rules_of (split_lookup c given fresh l) ≡ rules_of l

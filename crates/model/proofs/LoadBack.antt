@@ -1,6 +1,6 @@
 -- A well-formed model is loaded from the words of its tables.
 use Rattle.std.proofs.Common.{◌≡◌, ℕ, zero, suc, ◌+◌, ◌*◌, ◌^◌, ◌<◌, ◌≤◌, Bool, true, false, cond, ◌&&◌, eqb, ltb, leb, ◌⊎◌, List, [], ◌∷◌, ◌++◌, map, length, is_some, IfSome, Some, None, Ok, sum_by, count_by, Option, sym, refl, ap, ◌∙◌, subst, inl, inr, ⊎_elim, arith}
-use Rattle.std.specs.List.{flat_map, AllByRecursion as All, range_with_len}
+use Rattle.std.specs.List.{flat_map, AllByRecursion, range_with_len}
 use Rattle.std.specs.Option.{option_to_list}
 use Rattle.std.proofs.lemmas.List.{length-append, length-map, length-replicate}
 use Rattle.std.proofs.lemmas.List.Sums.{sum_by-cons}
@@ -38,14 +38,14 @@ at_position p l = eqb l.position p
 
 pub record Sound (n : ℕ) (t : Table) : Type 0 where
   pub spelt : value_bytes (values t.bytes) ≡ t.bytes
-  pub small : All (λ v. v < 65536) (values t.bytes)
+  pub small : AllByRecursion (λ v. v < 65536) (values t.bytes)
   pub size : length t.bytes < 2 ^ 24
-  pub slots : All (SoundSlot n (length t.bytes)) t.slots
+  pub slots : AllByRecursion (SoundSlot n (length t.bytes)) t.slots
   pub apart : (p : ℕ) → count_by (at_position p) t.slots ≤ 1
-  pub virtuals : All (λ v. v < n) t.virtuals
+  pub virtuals : AllByRecursion (λ v. v < n) t.virtuals
 
 -- slots one behind the other
-slots_sound : (n size p : ℕ) (ts : List ℕ) → All (λ t. t < n) ts → p + 2 * length ts ≤ size → All (SoundSlot n size) (slots_from p ts)
+slots_sound : (n size p : ℕ) (ts : List ℕ) → AllByRecursion (λ t. t < n) ts → p + 2 * length ts ≤ size → AllByRecursion (SoundSlot n size) (slots_from p ts)
 slots_sound n size p [] h l = tt
 slots_sound n size p (t ∷ ts) h l = (record { width = inl refl; within = omega arith; target = h.0 }, slots_sound n size (p + 2) ts h.1 (omega arith))
 
@@ -73,20 +73,20 @@ slots_apart p q (t ∷ ts) =
     (cases_eq p q)
 
 -- a table of values
-by_values : (n : ℕ) (vs : List ℕ) (ls : List Slot) (us : List ℕ) → All Value vs → 2 * length vs < 2 ^ 24
-    → All (SoundSlot n (2 * length vs)) ls → ((p : ℕ) → count_by (at_position p) ls ≤ 1) → All (λ v. v < n) us
+by_values : (n : ℕ) (vs : List ℕ) (ls : List Slot) (us : List ℕ) → AllByRecursion Value vs → 2 * length vs < 2 ^ 24
+    → AllByRecursion (SoundSlot n (2 * length vs)) ls → ((p : ℕ) → count_by (at_position p) ls ≤ 1) → AllByRecursion (λ v. v < n) us
     → Sound n (record { bytes = value_bytes vs; slots = ls; virtuals = us })
 by_values n vs ls us small short slots apart virtuals =
     record {
       spelt = ap value_bytes (values_value_bytes vs);
-      small = subst (All (λ v. v < 65536)) (sym (values_value_bytes vs)) small;
+      small = subst (AllByRecursion (λ v. v < 65536)) (sym (values_value_bytes vs)) small;
       size = let e = length-value_bytes vs in omega arith;
-      slots = subst (λ k. All (SoundSlot n k) ls) (sym (length-value_bytes vs)) slots;
+      slots = subst (λ k. AllByRecursion (SoundSlot n k) ls) (sym (length-value_bytes vs)) slots;
       apart = apart;
       virtuals = virtuals;
     }
 
-zeros_small : (k : ℕ) → All Value (zeros k)
+zeros_small : (k : ℕ) → AllByRecursion Value (zeros k)
 zeros_small zero = tt
 zeros_small (suc k) = (omega arith, zeros_small k)
 
@@ -96,7 +96,7 @@ ligature_sound n c g l h =
     let k = h.count in
     by_values n (g.glyph ∷ suc (length g.components) ∷ g.components) [] (c ∷ []) (h.glyph, (h.count, h.components)) (omega arith) tt (λ p. omega arith) (l, tt)
 
-set_sound : (n c : ℕ) (t : LigatureSet) → c < n → All (λ (g : Ligature). g.vertex < n) t.ligatures → GoodSet t → Sound n (set_table c t).table
+set_sound : (n c : ℕ) (t : LigatureSet) → c < n → AllByRecursion (λ (g : Ligature). g.vertex < n) t.ligatures → GoodSet t → Sound n (set_table c t).table
 set_sound n c t l below h =
     let k = h.count in
     let z : length (zeros (length t.ligatures)) ≡ length t.ligatures = length-replicate (length t.ligatures) 0 in
@@ -122,7 +122,7 @@ apart_before w p a q ts t l =
     omega arith)
     (cases_eq p q)
 
-subtable_sound : (n : ℕ) (s : Subtable) → s.coverage < n → All (λ (t : LigatureSet). t.vertex < n) s.sets → length s.sets < 65536 → Sound n (subtable_table s).table
+subtable_sound : (n : ℕ) (s : Subtable) → s.coverage < n → AllByRecursion (λ (t : LigatureSet). t.vertex < n) s.sets → length s.sets < 65536 → Sound n (subtable_table s).table
 subtable_sound n s l below k =
     let z : length (zeros (length s.sets)) ≡ length s.sets = length-replicate (length s.sets) 0 in
     let m : length (map (λ (t : LigatureSet). t.vertex) s.sets) ≡ length s.sets = length-map s.sets (λ (t : LigatureSet). t.vertex) in
@@ -145,7 +145,7 @@ extension_sound n e v l =
       virtuals = tt;
     }
 
-lookup_sound : (n : ℕ) (l : Lookup) → All (λ (s : Subtable). head s < n) l.subtables → Value l.kind → Value l.flag → IfSome l.mark Value → length l.subtables ≤ subtable_limit
+lookup_sound : (n : ℕ) (l : Lookup) → AllByRecursion (λ (s : Subtable). head s < n) l.subtables → Value l.kind → Value l.flag → IfSome l.mark Value → length l.subtables ≤ subtable_limit
     → Sound n (lookup_table l).table
 lookup_sound n l below kind flag mark k =
     let z : length (zeros (length l.subtables)) ≡ length l.subtables = length-replicate (length l.subtables) 0 in
@@ -170,7 +170,7 @@ glyphs_few gs h =
 
 -- a lookup has type 7 and extension tables, or type 4 and none
 abbrev pub Wrapped : Bool → List Subtable → Type 0
-Wrapped b ss = All (λ (s : Subtable). is_some s.extension ≡ b) ss
+Wrapped b ss = AllByRecursion (λ (s : Subtable). is_some s.extension ≡ b) ss
 
 pub kinds : (meaning : List ℕ → Option Meant) (l : Lookup) → GoodLookup meaning l → ((l.kind ≡ 7) × Wrapped true l.subtables) ⊎ ((l.kind ≡ 4) × Wrapped false l.subtables)
 kinds meaning l h = by (eqb l.kind 7) refl h.kind
@@ -187,14 +187,14 @@ abbrev pub SoundAt : ℕ → Placed → Type 0
 SoundAt n p = Sound n p.table
 
 module _ {admits : List ℕ → Type 0} {meaning : List ℕ → Option Meant} {span : List ℕ → ℕ} (law : Lawful admits meaning span) (n : ℕ) where
-  ligatures_sound : (c : ℕ) (gs : List Ligature) → c < n → All GoodLigature gs → All (SoundAt n) (map (ligature_table c) gs)
+  ligatures_sound : (c : ℕ) (gs : List Ligature) → c < n → AllByRecursion GoodLigature gs → AllByRecursion (SoundAt n) (map (ligature_table c) gs)
   ligatures_sound c [] l h = tt
   ligatures_sound c (g ∷ gs) l h = (ligature_sound n c g l h.0, ligatures_sound c gs l h.1)
 
-  set_walk_sound : (c : ℕ) (t : LigatureSet) → c < n → All (Below n) (set_walk c t) → GoodSet t → All (SoundAt n) (set_walk c t)
+  set_walk_sound : (c : ℕ) (t : LigatureSet) → c < n → AllByRecursion (Below n) (set_walk c t) → GoodSet t → AllByRecursion (SoundAt n) (set_walk c t)
   set_walk_sound c t l b h = (set_sound n c t l (all_mapped (Below n) (ligature_table c) t.ligatures b.1) h, ligatures_sound c t.ligatures l h.ligatures)
 
-  sets_sound : (c : ℕ) (ts : List LigatureSet) → c < n → All (λ t. All (Below n) (set_walk c t)) ts → All GoodSet ts → All (SoundAt n) (flat_map (set_walk c) ts)
+  sets_sound : (c : ℕ) (ts : List LigatureSet) → c < n → AllByRecursion (λ t. AllByRecursion (Below n) (set_walk c t)) ts → AllByRecursion GoodSet ts → AllByRecursion (SoundAt n) (flat_map (set_walk c) ts)
   sets_sound c [] l b h = tt
   sets_sound c (t ∷ ts) l b h = All-append (SoundAt n) (set_walk c t) (flat_map (set_walk c) ts) (set_walk_sound c t l b.0 h.0) (sets_sound c ts l b.1 h.1)
 
@@ -219,58 +219,58 @@ module _ {admits : List ℕ → Type 0} {meaning : List ℕ → Option Meant} {s
       let m : length (glyphs_meant s) ≡ length s.sets = length-map s.sets (λ (t : LigatureSet). t.first) in
       omega arith
 
-  extension_walk_sound : (o : Option ℕ) (v : ℕ) → v < n → All (SoundAt n) (extension_walk o v)
+  extension_walk_sound : (o : Option ℕ) (v : ℕ) → v < n → AllByRecursion (SoundAt n) (extension_walk o v)
   extension_walk_sound None v l = tt
   extension_walk_sound (Some e) v l = (extension_sound n e v l, tt)
 
-  subtable_walk_sound : (s : Subtable) → All (Below n) (subtable_walk s) → GoodSubtable meaning s → All (SoundAt n) (subtable_walk s)
+  subtable_walk_sound : (s : Subtable) → AllByRecursion (Below n) (subtable_walk s) → GoodSubtable meaning s → AllByRecursion (SoundAt n) (subtable_walk s)
   subtable_walk_sound s b h =
       let r = all_parts_lem (Below n) (extension_walk s.extension s.vertex) (subtable_table s ∷ coverage_table s ∷ flat_map (set_walk s.coverage) s.sets) b in
       let sets = joined_all (Below n) (set_walk s.coverage) s.sets r.1.1.1 in
       All-append (SoundAt n) (extension_walk s.extension s.vertex) (subtable_table s ∷ coverage_table s ∷ flat_map (set_walk s.coverage) s.sets)
       (extension_walk_sound s.extension s.vertex r.1.0) (
-        subtable_sound n s r.1.1.0 (All-weaker (λ t. All (Below n) (set_walk s.coverage t)) (λ (t : LigatureSet). t.vertex < n) (λ t a. a.0) s.sets sets) (few_sets s h),
+        subtable_sound n s r.1.1.0 (All-weaker (λ t. AllByRecursion (Below n) (set_walk s.coverage t)) (λ (t : LigatureSet). t.vertex < n) (λ t a. a.0) s.sets sets) (few_sets s h),
         (coverage_sound s h, sets_sound s.coverage s.sets r.1.1.0 sets h.sets),
       )
 
-  pub head_below : (s : Subtable) → All (Below n) (subtable_walk s) → head s < n
+  pub head_below : (s : Subtable) → AllByRecursion (Below n) (subtable_walk s) → head s < n
   head_below s b = from s.extension b
     where
-      from : (o : Option ℕ) → All (Below n) (extension_walk o s.vertex ++ (subtable_table s ∷ coverage_table s ∷ flat_map (set_walk s.coverage) s.sets)) → head_or o s.vertex < n
+      from : (o : Option ℕ) → AllByRecursion (Below n) (extension_walk o s.vertex ++ (subtable_table s ∷ coverage_table s ∷ flat_map (set_walk s.coverage) s.sets)) → head_or o s.vertex < n
       from None h = h.0
       from (Some e) h = h.0
 
-  subtables_sound : (ss : List Subtable) → All (λ s. All (Below n) (subtable_walk s)) ss → All (GoodSubtable meaning) ss → All (SoundAt n) (flat_map subtable_walk ss)
+  subtables_sound : (ss : List Subtable) → AllByRecursion (λ s. AllByRecursion (Below n) (subtable_walk s)) ss → AllByRecursion (GoodSubtable meaning) ss → AllByRecursion (SoundAt n) (flat_map subtable_walk ss)
   subtables_sound [] b h = tt
   subtables_sound (s ∷ ss) b h = All-append (SoundAt n) (subtable_walk s) (flat_map subtable_walk ss) (subtable_walk_sound s b.0 h.0) (subtables_sound ss b.1 h.1)
 
   kind_small : (l : Lookup) → GoodLookup meaning l → Value l.kind
   kind_small l h = ⊎_elim (λ a. let e = a.0 in omega arith) (λ a. let e = a.0 in omega arith) (kinds meaning l h)
 
-  lookup_walk_sound : (l : Lookup) → All (Below n) (lookup_walk l) → GoodLookup meaning l → All (SoundAt n) (lookup_walk l)
+  lookup_walk_sound : (l : Lookup) → AllByRecursion (Below n) (lookup_walk l) → GoodLookup meaning l → AllByRecursion (SoundAt n) (lookup_walk l)
   lookup_walk_sound l b h =
       let each = joined_all (Below n) subtable_walk l.subtables b.1 in (
-        lookup_sound n l (All-weaker (λ s. All (Below n) (subtable_walk s)) (λ (s : Subtable). head s < n) (λ s a. head_below s a) l.subtables each) (kind_small l h) h.flag h.mark h.count,
+        lookup_sound n l (All-weaker (λ s. AllByRecursion (Below n) (subtable_walk s)) (λ (s : Subtable). head s < n) (λ s a. head_below s a) l.subtables each) (kind_small l h) h.flag h.mark h.count,
         subtables_sound l.subtables each h.subtables,
       )
 
-  lookups_sound : (ls : List Lookup) → All (λ l. All (Below n) (lookup_walk l)) ls → All (GoodLookup meaning) ls → All (SoundAt n) (flat_map lookup_walk ls)
+  lookups_sound : (ls : List Lookup) → AllByRecursion (λ l. AllByRecursion (Below n) (lookup_walk l)) ls → AllByRecursion (GoodLookup meaning) ls → AllByRecursion (SoundAt n) (flat_map lookup_walk ls)
   lookups_sound [] b h = tt
   lookups_sound (l ∷ ls) b h = All-append (SoundAt n) (lookup_walk l) (flat_map lookup_walk ls) (lookup_walk_sound l b.0 h.0) (lookups_sound ls b.1 h.1)
 
-pub walk_sound : {admits : List ℕ → Type 0} {meaning : List ℕ → Option Meant} {span : List ℕ → ℕ} → Lawful admits meaning span → (m : Model) → Good meaning m → All (SoundAt m.taken.vertices) (model_walk m)
+pub walk_sound : {admits : List ℕ → Type 0} {meaning : List ℕ → Option Meant} {span : List ℕ → ℕ} → Lawful admits meaning span → (m : Model) → Good meaning m → AllByRecursion (SoundAt m.taken.vertices) (model_walk m)
 walk_sound law m h = lookups_sound law m.taken.vertices m.lookups (joined_all (Below m.taken.vertices) lookup_walk m.lookups h.below) h.lookups
 
 -- TABLES BY VERTEX
 empty_sound : (n : ℕ) → Sound n no_table
 empty_sound n = record { spelt = refl; small = tt; size = omega arith; slots = tt; apart = λ p. omega arith; virtuals = tt }
 
-pub table_of : (P : Table → Type 0) → P no_table → (ps : List Placed) (v : ℕ) → All (λ (p : Placed). P p.table) ps → P (table_in ps v)
+pub table_of : (P : Table → Type 0) → P no_table → (ps : List Placed) (v : ℕ) → AllByRecursion (λ (p : Placed). P p.table) ps → P (table_in ps v)
 table_of P z [] v h = z
 table_of P z (p ∷ ps) v h = cond_both (eqb p.vertex v) p.table (table_in ps v) P (λ e. h.0) (λ e. table_of P z ps v h.1)
 
 -- none of them has that number
-pub none_are : (v : ℕ) (ps : List Placed) → count_of v (map vertex_of ps) ≡ 0 → All (λ (p : Placed). p.vertex ≡ v → ⊥) ps
+pub none_are : (v : ℕ) (ps : List Placed) → count_of v (map vertex_of ps) ≡ 0 → AllByRecursion (λ (p : Placed). p.vertex ≡ v → ⊥) ps
 none_are v [] h = tt
 none_are v (p ∷ ps) h = ((λ e. let o = one_same p.vertex v e in omega arith), none_are v ps (omega arith))
 
@@ -278,7 +278,7 @@ pub not_in : (v : ℕ) (ps : List Placed) → count_of v (map vertex_of ps) ≡ 
 not_in v [] h = refl
 not_in v (p ∷ ps) h = let o = none_are v (p ∷ ps) h in cond-false (eqb p.vertex v) p.table (table_in ps v) (ne_eqb p.vertex v o.0) ∙ not_in v ps (omega arith)
 
-pub found : (ps : List Placed) → Distinct (map vertex_of ps) → All (λ (p : Placed). table_in ps p.vertex ≡ p.table) ps
+pub found : (ps : List Placed) → Distinct (map vertex_of ps) → AllByRecursion (λ (p : Placed). table_in ps p.vertex ≡ p.table) ps
 found [] h = tt
 found (p ∷ ps) h = (
   cond-true (eqb p.vertex p.vertex) p.table (table_in ps p.vertex) (eq-eqb p.vertex p.vertex refl),
@@ -289,7 +289,7 @@ found (p ∷ ps) h = (
 )
 
 -- a sum over the numbers is the sum over the tables
-pub tally : (g : Table → ℕ) → g no_table ≡ 0 → (n : ℕ) (ps : List Placed) → Distinct (map vertex_of ps) → All (Below n) ps
+pub tally : (g : Table → ℕ) → g no_table ≡ 0 → (n : ℕ) (ps : List Placed) → Distinct (map vertex_of ps) → AllByRecursion (Below n) ps
     → sum_by (λ v. g (table_in ps v)) (range_with_len 0 n) ≡ sum_by (λ (p : Placed). g p.table) ps
 tally g z n [] d b = sum_zero (λ v. g no_table) 0 n (λ v. z)
 tally g z n (p ∷ ps) d b =
@@ -308,7 +308,7 @@ width_back w h =
     (λ e. ap (λ x. width_of (cond x Four Two)) (eq-eqb w 4 e) ∙ sym e)
     h
 
-slots_back : (n k : ℕ) (ls : List Slot) (vs : List ℕ) → All (SoundSlot n k) ls → slots_of (map link_of ls ++ map virtual vs) ≡ ls
+slots_back : (n k : ℕ) (ls : List Slot) (vs : List ℕ) → AllByRecursion (SoundSlot n k) ls → slots_of (map link_of ls ++ map virtual vs) ≡ ls
 slots_back n k [] [] h = refl
 slots_back n k [] (v ∷ vs) h = slots_back n k [] vs h
 slots_back n k (l ∷ ls) vs h =
@@ -327,7 +327,7 @@ spelt_back n t h =
       slots = subst (IsPermutation t.slots) (sym (slots_back n (length t.bytes) t.slots t.virtuals h.slots)) (IsPermutation-refl t.slots);
     }
 
-links_fine : (n k : ℕ) (ls : List Slot) (vs : List ℕ) → n < 2 ^ 24 → k < 2 ^ 24 → All (SoundSlot n k) ls → All (λ v. v < n) vs → All FineLink (map link_of ls ++ map virtual vs)
+links_fine : (n k : ℕ) (ls : List Slot) (vs : List ℕ) → n < 2 ^ 24 → k < 2 ^ 24 → AllByRecursion (SoundSlot n k) ls → AllByRecursion (λ v. v < n) vs → AllByRecursion FineLink (map link_of ls ++ map virtual vs)
 links_fine n k [] [] ln lk h g = tt
 links_fine n k [] (v ∷ vs) ln lk h g = (let l = g.0 in omega arith, links_fine n k [] vs ln lk h g.1)
 links_fine n k (l ∷ ls) vs ln lk h g = ((let w = h.0.within in omega arith, let t = h.0.target in omega arith), links_fine n k ls vs ln lk h.1 g)
@@ -369,7 +369,7 @@ same_taken : (v l b v' l' b' : ℕ) → v ≡ v' → l ≡ l' → b ≡ b' → �
 same_taken v l b v' l' b' e f g = cc
 
 -- THE THEOREM
-roots_below : (n : ℕ) (ls : List Lookup) → All (λ l. All (Below n) (lookup_walk l)) ls → All (λ r. r < n) (map (λ (l : Lookup). l.vertex) ls)
+roots_below : (n : ℕ) (ls : List Lookup) → AllByRecursion (λ l. AllByRecursion (Below n) (lookup_walk l)) ls → AllByRecursion (λ r. r < n) (map (λ (l : Lookup). l.vertex) ls)
 roots_below n [] h = tt
 roots_below n (l ∷ ls) h = (h.0.0, roots_below n ls h.1)
 
@@ -389,7 +389,7 @@ module _ {admits : List ℕ → Type 0} {meaning : List ℕ → Option Meant} {s
       ∙ ap (λ x. Some (spell_table x)) a.1 in
       (t, at, spelt_back count p.table a.2, virtuals_back p.table.slots p.table.virtuals)
 
-  all_held : All (Holds (stream_of m)) (model_walk m)
+  all_held : AllByRecursion (Holds (stream_of m)) (model_walk m)
   all_held =
       All-weaker (λ (p : Placed). (p.vertex < count) × ((table_in (model_walk m) p.vertex ≡ p.table) × Sound count p.table)) (Holds (stream_of m))
       (λ p a. held p (a.0, a.1.0, a.1.1)) (model_walk m)
@@ -413,7 +413,7 @@ module _ {admits : List ℕ → Type 0} {meaning : List ℕ → Option Meant} {s
       record {
         uncounted = record {
           tables = All-map FineTable (λ v. spell_table (table_in (model_walk m) v)) (range_with_len 0 count) (all_any (λ v. FineTable (spell_table (table_in (model_walk m) v))) (λ v. table_fine count (table_in (model_walk m) v) l (sound_at v)) (range_with_len 0 count));
-          roots = subst (λ k. All (λ r. r < k) (map (λ (x : Lookup). x.vertex) m.lookups)) (sym counted) (roots_below count m.lookups (joined_all (Below count) lookup_walk m.lookups h.below));
+          roots = subst (λ k. AllByRecursion (λ r. r < k) (map (λ (x : Lookup). x.vertex) m.lookups)) (sym counted) (roots_below count m.lookups (joined_all (Below count) lookup_walk m.lookups h.below));
         };
         count = subst (λ k. k < 2 ^ 24) (sym counted) l;
       }

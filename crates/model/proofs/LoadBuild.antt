@@ -1,6 +1,6 @@
 -- A stream with no loose link, no stray and no faulty place is the tables of a model.
 use Rattle.std.proofs.Common.{◌≡◌, ℕ, zero, suc, ◌+◌, ◌<◌, Bool, true, false, cond, eqb, List, [], ◌∷◌, ◌++◌, map, length, get_or, is_some, IfSome, Some, None, Option, sym, refl, ap, ◌∙◌, subst, ⊎_elim, arith}
-use Rattle.std.specs.List.{ContainsAt as Has, flat_map, AllByRecursion as All}
+use Rattle.std.specs.List.{ContainsAt as Has, flat_map, AllByRecursion}
 use Rattle.std.specs.List.Sorted.{IsPermutation}
 use Rattle.std.specs.Option.{option_to_list}
 use Rattle.std.proofs.lemmas.List.{length-map}
@@ -27,7 +27,7 @@ use Rattle.model.proofs.LoadShapes.{heads_of, sets_of, ligatures_of, lookup_eq, 
 use Rattle.model.proofs.LoadWhole.{read_whole}
 
 -- LISTS MADE ONE BY ONE
-build : {X : Type 0} (r : X → ℕ) (P : X → Type 0) (us : List ℕ) → ((k u : ℕ) → nth us k ≡ Some u → (x : X) × (r x ≡ u) × P x) → (xs : List X) × (map r xs ≡ us) × All P xs
+build : {X : Type 0} (r : X → ℕ) (P : X → Type 0) (us : List ℕ) → ((k u : ℕ) → nth us k ≡ Some u → (x : X) × (r x ≡ u) × P x) → (xs : List X) × (map r xs ≡ us) × AllByRecursion P xs
 build r P [] f = ([], refl, tt)
 build r P (u ∷ us) f =
     let a = f 0 u refl in
@@ -35,7 +35,7 @@ build r P (u ∷ us) f =
     (a.0 ∷ b.0, λ i. a.1 i ∷ b.1 i, (a.2, b.2))
 
 build_two : {X : Type 0} (r q : X → ℕ) (P : X → Type 0) (us gs : List ℕ) → length us ≡ length gs → ((k u g : ℕ) → nth us k ≡ Some u → (x : X) × (r x ≡ u) × (q x ≡ g) × P x)
-    → (xs : List X) × (map r xs ≡ us) × (map q xs ≡ gs) × All P xs
+    → (xs : List X) × (map r xs ≡ us) × (map q xs ≡ gs) × AllByRecursion P xs
 build_two r q P [] [] e f = ([], refl, refl, tt)
 build_two r q P [] (g ∷ gs) e f = absurd (omega arith)
 build_two r q P (u ∷ us) [] e f = absurd (omega arith)
@@ -53,13 +53,13 @@ slot_in p (v ∷ us) zero u e = (p, nth-has (slots_from p (v ∷ us)) 0 (slot p 
     slotted (Some w) = Some (slot p 2 w)
 slot_in p (v ∷ us) (suc k) u e = let r = slot_in (p + 2) us k u e in (r.0, has_later (slot p 2 v) (slots_from (p + 2) us) (slot r.0 2 u) r.1)
 
-bytes_value_bytes : (vs : List ℕ) → All (λ v. v < 65536) vs → Bytes (value_bytes vs)
+bytes_value_bytes : (vs : List ℕ) → AllByRecursion (λ v. v < 65536) vs → Bytes (value_bytes vs)
 bytes_value_bytes [] h k l = absurd (omega arith)
 bytes_value_bytes (v ∷ vs) h zero l = let b = h.0 in omega arith
 bytes_value_bytes (v ∷ vs) h (suc zero) l = omega arith
 bytes_value_bytes (v ∷ vs) h (suc (suc k)) l = bytes_value_bytes vs h.1 k (omega arith)
 
-mark_cases : (o : Option ℕ) → All (λ v. v < 65536) (option_to_list o) → IfSome o Value
+mark_cases : (o : Option ℕ) → AllByRecursion (λ v. v < 65536) (option_to_list o) → IfSome o Value
 mark_cases None h = tt
 mark_cases (Some x) h = h.0
 
@@ -92,7 +92,7 @@ module _ (meaning : List ℕ → Option Meant) (s : Stream) (fine : Uncounted s)
   passes {p} {k} {v} t st e =
       ⊎_elim (λ ok. ok) (λ bad. absurd (clear p bad.0 (record { kind = k; vertex = v; table = t; stands = st; is = e; fault = bad.1 }))) (judged_at meaning s tight k v t e)
 
-  small : (v : ℕ) (t : StreamTable) → TableAt s v t → All (λ x. x < 65536) t.values
+  small : (v : ℕ) (t : StreamTable) → TableAt s v t → AllByRecursion (λ x. x < 65536) t.values
   small v t e = (all-nth FineTable s.tables v t e fine.tables).values
 
   -- LIGATURES
@@ -102,22 +102,22 @@ module _ (meaning : List ℕ → Option Meant) (s : Stream) (fine : Uncounted s)
       let ok = passes t.0 st t.1 in
       let g = ok.shaped.0 in
       let h = ok.shaped.1 in
-      let b : All (λ x. x < 65536) (g.glyph ∷ suc (length g.components) ∷ g.components) =
-      subst (All (λ x. x < 65536)) (same_values t.0.values (g.glyph ∷ suc (length g.components) ∷ g.components) h.bytes) (small v t.0 t.1) in (
+      let b : AllByRecursion (λ x. x < 65536) (g.glyph ∷ suc (length g.components) ∷ g.components) =
+      subst (AllByRecursion (λ x. x < 65536)) (same_values t.0.values (g.glyph ∷ suc (length g.components) ∷ g.components) h.bytes) (small v t.0 t.1) in (
         record { vertex = v; glyph = g.glyph; components = g.components },
         refl,
         (record { glyph = b.0; count = b.1.0; components = b.1.1 }, (t.0, t.1, record { bytes = h.bytes; slots = h.slots }, ok.virtuals)),
       )
 
   -- SETS
-  made_set : (i j k c v f : ℕ) → Stands s (at_set i j k) (is_set c) v → (y : LigatureSet) × (y.vertex ≡ v) × (y.first ≡ f) × (GoodSet y × All (Holds s) (set_walk c y))
+  made_set : (i j k c v f : ℕ) → Stands s (at_set i j k) (is_set c) v → (y : LigatureSet) × (y.vertex ≡ v) × (y.first ≡ f) × (GoodSet y × AllByRecursion (Holds s) (set_walk c y))
   made_set i j k c v f st =
       let t = tabled st in
       let ok = passes t.0 st t.1 in
       let y = ok.shaped.0 in
       let h = ok.shaped.1 in
       let vs : t.0.values ≡ length y.ligatures ∷ zeros (length y.ligatures) = same_values t.0.values (length y.ligatures ∷ zeros (length y.ligatures)) h.bytes in
-      let b : length y.ligatures < 65536 = (subst (All (λ x. x < 65536)) vs (small v t.0 t.1)).0 in
+      let b : length y.ligatures < 65536 = (subst (AllByRecursion (λ x. x < 65536)) vs (small v t.0 t.1)).0 in
       let n : value_at t.0 0 ≡ length y.ligatures = ap (λ zs. get_or zs 0 0) vs in
       let gs = build (λ (g : Ligature). g.vertex) (λ g. GoodLigature g × Holds s (ligature_table c g)) (ligatures_of y)
       (λ m u e. let x = nth_mapped (λ (g : Ligature). g.vertex) y.ligatures m u e in
@@ -138,7 +138,7 @@ module _ (meaning : List ℕ → Option Meant) (s : Stream) (fine : Uncounted s)
 
   -- SUBTABLES
   abbrev Below : Subtable → Type 0
-  Below x = GoodSubtable meaning x × All (Holds s) (subtable_table x ∷ coverage_table x ∷ flat_map (set_walk x.coverage) x.sets)
+  Below x = GoodSubtable meaning x × AllByRecursion (Holds s) (subtable_table x ∷ coverage_table x ∷ flat_map (set_walk x.coverage) x.sets)
 
   record Made (o : Option ℕ) (v : ℕ) : Type 0 where
     coverage : ℕ
@@ -158,7 +158,7 @@ module _ (meaning : List ℕ → Option Meant) (s : Stream) (fine : Uncounted s)
       let u = tabled cst in
       let okc = passes u.0 cst u.1 in
       let gs = okc.covered.0 in
-      let ys = build_two (λ (y : LigatureSet). y.vertex) (λ (y : LigatureSet). y.first) (λ y. GoodSet y × All (Holds s) (set_walk x.coverage y)) (sets_of x) gs (length-map x.sets (λ (y : LigatureSet). y.vertex) ∙ sym okc.covered.2)
+      let ys = build_two (λ (y : LigatureSet). y.vertex) (λ (y : LigatureSet). y.first) (λ y. GoodSet y × AllByRecursion (Holds s) (set_walk x.coverage y)) (sets_of x) gs (length-map x.sets (λ (y : LigatureSet). y.vertex) ∙ sym okc.covered.2)
       (λ k w g e. let y = nth_mapped (λ (z : LigatureSet). z.vertex) x.sets k w e in
       let r = made_set i j k x.coverage y.0.vertex g (set i j k v t.0 x y.0 st t.1 h y.1) in
       (r.0, r.1 ∙ y.2, r.2, r.3)) in
@@ -173,7 +173,7 @@ module _ (meaning : List ℕ → Option Meant) (s : Stream) (fine : Uncounted s)
         below = (
           record {
             some = omega arith;
-            sets = All-weaker (λ y. GoodSet y × All (Holds s) (set_walk x.coverage y)) GoodSet (λ y a. a.0) ys.0 ys.3;
+            sets = All-weaker (λ y. GoodSet y × AllByRecursion (Holds s) (set_walk x.coverage y)) GoodSet (λ y a. a.0) ys.0 ys.3;
             bytes = bytes_value_bytes u.0.values (small x.coverage u.0 u.1);
             means = okc.covered.1 ∙ ap (λ gl. Some (gl, length (bytes_of u.0))) (sym ys.2);
           },
@@ -181,7 +181,7 @@ module _ (meaning : List ℕ → Option Meant) (s : Stream) (fine : Uncounted s)
             (t.0, t.1, w, ok.virtuals),
             (
               (u.0, u.1, record { bytes = refl; slots = subst (IsPermutation []) (sym okc.shaped) (IsPermutation-refl []) }, okc.virtuals),
-              all_joined (Holds s) (set_walk x.coverage) ys.0 (All-weaker (λ y. GoodSet y × All (Holds s) (set_walk x.coverage y)) (λ y. All (Holds s) (set_walk x.coverage y)) (λ y a. a.1) ys.0 ys.3),
+              all_joined (Holds s) (set_walk x.coverage) ys.0 (All-weaker (λ y. GoodSet y × AllByRecursion (Holds s) (set_walk x.coverage y)) (λ y. AllByRecursion (Holds s) (set_walk x.coverage y)) (λ y a. a.1) ys.0 ys.3),
             ),
           ),
         );
@@ -189,7 +189,7 @@ module _ (meaning : List ℕ → Option Meant) (s : Stream) (fine : Uncounted s)
 
   -- LOOKUPS
   abbrev Entry : Bool → Subtable → Type 0
-  Entry b x = (is_some x.extension ≡ b) × GoodSubtable meaning x × All (Holds s) (subtable_walk x)
+  Entry b x = (is_some x.extension ≡ b) × GoodSubtable meaning x × AllByRecursion (Holds s) (subtable_walk x)
 
   made_plain : (i j v u : ℕ) (t : StreamTable) (l : Lookup) → Stands s (at_lookup i) is_lookup v → TableAt s v t → LookupShape t l → l.kind ≡ 4 → nth (heads_of l) j ≡ Some u → (x : Subtable) × (head x ≡ u) × Entry false x
   made_plain i j v u t l st e h four at =
@@ -210,9 +210,9 @@ module _ (meaning : List ℕ → Option Meant) (s : Stream) (fine : Uncounted s)
       )
 
   abbrev Kinded : Lookup → Type 0
-  Kinded l = cond (eqb l.kind 7) (All (λ (x : Subtable). is_some x.extension ≡ true) l.subtables) ((l.kind ≡ 4) × All (λ (x : Subtable). is_some x.extension ≡ false) l.subtables)
+  Kinded l = cond (eqb l.kind 7) (AllByRecursion (λ (x : Subtable). is_some x.extension ≡ true) l.subtables) ((l.kind ≡ 4) × AllByRecursion (λ (x : Subtable). is_some x.extension ≡ false) l.subtables)
 
-  made_lookup : (i v : ℕ) → nth s.roots i ≡ Some v → (l : Lookup) × (l.vertex ≡ v) × (GoodLookup meaning l × All (Holds s) (lookup_walk l))
+  made_lookup : (i v : ℕ) → nth s.roots i ≡ Some v → (l : Lookup) × (l.vertex ≡ v) × (GoodLookup meaning l × AllByRecursion (Holds s) (lookup_walk l))
   made_lookup i v at = ⊎_elim four seven h.kind
     where
       st : Stands s (at_lookup i) is_lookup v
@@ -233,13 +233,13 @@ module _ (meaning : List ℕ → Option Meant) (s : Stream) (fine : Uncounted s)
       h : LookupShape t l
       h = ok.shaped.1
 
-      finish : (b : Bool) (xs : List Subtable) → map (λ (x : Subtable). head x) xs ≡ heads_of l → All (Entry b) xs
+      finish : (b : Bool) (xs : List Subtable) → map (λ (x : Subtable). head x) xs ≡ heads_of l → AllByRecursion (Entry b) xs
           → Kinded (record { vertex = v; kind = l.kind; flag = l.flag; mark = l.mark; subtables = xs })
-          → (k : Lookup) × (k.vertex ≡ v) × (GoodLookup meaning k × All (Holds s) (lookup_walk k))
+          → (k : Lookup) × (k.vertex ≡ v) × (GoodLookup meaning k × AllByRecursion (Holds s) (lookup_walk k))
       finish b xs same all kinded =
           let k : Lookup = record { vertex = v; kind = l.kind; flag = l.flag; mark = l.mark; subtables = xs } in
           let vs : t.values ≡ l.kind ∷ l.flag ∷ length l.subtables ∷ (zeros (length l.subtables) ++ option_to_list l.mark) = same_values t.values (l.kind ∷ l.flag ∷ length l.subtables ∷ (zeros (length l.subtables) ++ option_to_list l.mark)) h.table.bytes in
-          let sm = subst (All (λ x. x < 65536)) vs (small v t e) in
+          let sm = subst (AllByRecursion (λ x. x < 65536)) vs (small v t e) in
           let n : value_at t 2 ≡ length l.subtables = ap (λ zs. get_or zs 2 0) vs in
           let m : length xs ≡ length l.subtables = sym (length-map xs (λ (x : Subtable). head x)) ∙ ap length same ∙ length-map l.subtables (λ (x : Subtable). head x) in
           let few = ok.few in (
@@ -256,32 +256,32 @@ module _ (meaning : List ℕ → Option Meant) (s : Stream) (fine : Uncounted s)
               },
               (
                 (t, e, subst (Spelt t) (lookup_eq l k refl refl refl (sym same)) h.table, ok.virtuals),
-                all_joined (Holds s) subtable_walk xs (All-weaker (Entry b) (λ x. All (Holds s) (subtable_walk x)) (λ x a. a.2) xs all),
+                all_joined (Holds s) subtable_walk xs (All-weaker (Entry b) (λ x. AllByRecursion (Holds s) (subtable_walk x)) (λ x a. a.2) xs all),
               ),
             ),
           )
 
-      four : l.kind ≡ 4 → (k : Lookup) × (k.vertex ≡ v) × (GoodLookup meaning k × All (Holds s) (lookup_walk k))
+      four : l.kind ≡ 4 → (k : Lookup) × (k.vertex ≡ v) × (GoodLookup meaning k × AllByRecursion (Holds s) (lookup_walk k))
       four is =
           let r = build (λ (x : Subtable). head x) (Entry false) (heads_of l) (λ j u at'. made_plain i j v u t l st e h is at') in
           finish false r.0 r.1 r.2
-          (subst (λ b. cond b (All (λ (x : Subtable). is_some x.extension ≡ true) r.0) ((l.kind ≡ 4) × All (λ (x : Subtable). is_some x.extension ≡ false) r.0)) (sym (ne_eqb l.kind 7 (λ z. omega arith)))
+          (subst (λ b. cond b (AllByRecursion (λ (x : Subtable). is_some x.extension ≡ true) r.0) ((l.kind ≡ 4) × AllByRecursion (λ (x : Subtable). is_some x.extension ≡ false) r.0)) (sym (ne_eqb l.kind 7 (λ z. omega arith)))
           (is, All-weaker (Entry false) (λ (x : Subtable). is_some x.extension ≡ false) (λ x a. a.0) r.0 r.2))
 
-      seven : l.kind ≡ 7 → (k : Lookup) × (k.vertex ≡ v) × (GoodLookup meaning k × All (Holds s) (lookup_walk k))
+      seven : l.kind ≡ 7 → (k : Lookup) × (k.vertex ≡ v) × (GoodLookup meaning k × AllByRecursion (Holds s) (lookup_walk k))
       seven is =
           let r = build (λ (x : Subtable). head x) (Entry true) (heads_of l) (λ j u at'. made_wrapped i j v u t l st e h is at') in
           finish true r.0 r.1 r.2
-          (subst (λ b. cond b (All (λ (x : Subtable). is_some x.extension ≡ true) r.0) ((l.kind ≡ 4) × All (λ (x : Subtable). is_some x.extension ≡ false) r.0)) (sym (eq-eqb l.kind 7 is))
+          (subst (λ b. cond b (AllByRecursion (λ (x : Subtable). is_some x.extension ≡ true) r.0) ((l.kind ≡ 4) × AllByRecursion (λ (x : Subtable). is_some x.extension ≡ false) r.0)) (sym (eq-eqb l.kind 7 is))
           (All-weaker (Entry true) (λ (x : Subtable). is_some x.extension ≡ true) (λ x a. a.0) r.0 r.2))
 
   pub made_model : Never (Strays s) → (m : Model) × Loaded meaning s m
   made_model strays =
-      let r = build (λ (l : Lookup). l.vertex) (λ l. GoodLookup meaning l × All (Holds s) (lookup_walk l)) s.roots (λ i v e. made_lookup i v e) in
+      let r = build (λ (l : Lookup). l.vertex) (λ l. GoodLookup meaning l × AllByRecursion (Holds s) (lookup_walk l)) s.roots (λ i v e. made_lookup i v e) in
       let m : Model = record { lookups = r.0; taken = taken_by s } in (
         m,
         read_whole s m
-            (all_joined (Holds s) lookup_walk r.0 (All-weaker (λ l. GoodLookup meaning l × All (Holds s) (lookup_walk l)) (λ l. All (Holds s) (lookup_walk l)) (λ l a. a.1) r.0 r.2))
+            (all_joined (Holds s) lookup_walk r.0 (All-weaker (λ l. GoodLookup meaning l × AllByRecursion (Holds s) (lookup_walk l)) (λ l. AllByRecursion (Holds s) (lookup_walk l)) (λ l a. a.1) r.0 r.2))
             (sym r.1) strays meaning
-            (All-weaker (λ l. GoodLookup meaning l × All (Holds s) (lookup_walk l)) (GoodLookup meaning) (λ l a. a.0) r.0 r.2) refl,
+            (All-weaker (λ l. GoodLookup meaning l × AllByRecursion (Holds s) (lookup_walk l)) (GoodLookup meaning) (λ l a. a.0) r.0 r.2) refl,
       )

@@ -1,6 +1,6 @@
 -- In a stream that is a model's tables every link is in place, and every vertex is entered once and reached.
 use Rattle.std.proofs.Common.{◌≡◌, ℕ, zero, suc, ◌+◌, ◌<◌, ◌≤◌, Bool, cond, eqb, List, [], ◌∷◌, ◌++◌, map, length, Some, None, sum_by, count_by, Option, sym, refl, ap, ◌∙◌, subst, ⊎_elim, arith}
-use Rattle.std.specs.List.{ContainsAt as Has, flat_map, AllByRecursion as All, range_with_len}
+use Rattle.std.specs.List.{ContainsAt as Has, flat_map, AllByRecursion, range_with_len}
 use Rattle.std.proofs.lemmas.List.{map-append, length-map}
 use Rattle.std.proofs.lemmas.List.Sums.{sum_by-cons, sum_by-append}
 use Rattle.std.proofs.ByRecursion.{All-append, All-map, All-weaker, all-has, all_has_itself, all_shuffled, has_shuffled}
@@ -48,7 +48,7 @@ sum_gap f a (suc n) u h l k e =
     sum_most b zero = omega arith
     sum_most b (suc m) = let q = sum_by-cons f b (range_with_len (b + 1) m) in let r = sum_most (b + 1) m in let z = h b in omega arith
 
-pub counted_all : (n : ℕ) (vs : List ℕ) → All (λ v. v < n) vs → sum_by (λ v. count_of v vs) (range_with_len 0 n) ≡ length vs
+pub counted_all : (n : ℕ) (vs : List ℕ) → AllByRecursion (λ v. v < n) vs → sum_by (λ v. count_of v vs) (range_with_len 0 n) ≡ length vs
 counted_all n [] h = sum_zero (λ v. 0) 0 n (λ v. refl)
 counted_all n (u ∷ vs) h =
     let a = sum_add (λ v. one (eqb u v)) (λ v. count_of v vs) 0 n in
@@ -57,7 +57,7 @@ counted_all n (u ∷ vs) h =
     let r = counted_all n vs h.1 in
     omega arith
 
-pub full : (n : ℕ) (vs : List ℕ) → Distinct vs → All (λ v. v < n) vs → length vs ≡ n → (v : ℕ) → v < n → 0 < count_of v vs
+pub full : (n : ℕ) (vs : List ℕ) → Distinct vs → AllByRecursion (λ v. v < n) vs → length vs ≡ n → (v : ℕ) → v < n → 0 < count_of v vs
 full n vs d b e v l =
     ⊎_elim
     (λ h. h)
@@ -87,7 +87,7 @@ pub record Held (m : Model) (v : ℕ) (t : StreamTable) : Type 0 where
 pub table_same : (s : Stream) (v : ℕ) (t u : StreamTable) → TableAt s v t → TableAt s v u → t ≡ u
 table_same s v t u e f = some_same (sym e ∙ f)
 
-pub held_from : (s : Stream) (m : Model) (v : ℕ) (t : StreamTable) → All (Holds s) (model_walk m) → 0 < count_of v (map vertex_of (model_walk m)) → TableAt s v t → Held m v t
+pub held_from : (s : Stream) (m : Model) (v : ℕ) (t : StreamTable) → AllByRecursion (Holds s) (model_walk m) → 0 < count_of v (map vertex_of (model_walk m)) → TableAt s v t → Held m v t
 held_from s m v t h c e =
     let f = counted_nth v (model_walk m) c in
     let p = f.1 in
@@ -106,12 +106,12 @@ held_from s m v t h c e =
 in_place : (s : Stream) (n : ℕ) (t : StreamTable) (a : Table) → n ≡ length s.tables → Sound n a → Spelt t a → virtuals_of t.links ≡ a.virtuals → Loose s t → ⊥
 in_place s n t a size sound spelt virtuals = by
   where
-    slots : All (SoundSlot n (length a.bytes)) (slots_of t.links)
+    slots : AllByRecursion (SoundSlot n (length a.bytes)) (slots_of t.links)
     slots = all_shuffled (SoundSlot n (length a.bytes)) a.slots (slots_of t.links) spelt.slots sound.slots
 
     by : Loose s t → ⊥
     by (nowhere l i g) = let r = (all-has (SoundSlot n (length a.bytes)) (slots_of t.links) l slots i).target in omega arith
-    by (nowhere_virtual u i g) = let r = all-has (λ w. w < n) (virtuals_of t.links) u (subst (All (λ w. w < n)) (sym virtuals) sound.virtuals) i in omega arith
+    by (nowhere_virtual u i g) = let r = all-has (λ w. w < n) (virtuals_of t.links) u (subst (AllByRecursion (λ w. w < n)) (sym virtuals) sound.virtuals) i in omega arith
     by (beyond l i g) =
         let r = (all-has (SoundSlot n (length a.bytes)) (slots_of t.links) l slots i).within in
         let k : length (bytes_of t) ≡ length a.bytes = ap length spelt.bytes in
@@ -208,51 +208,51 @@ module _ (s : Stream) where
   abbrev Reach : Placed → Type 0
   Reach p = Reached s p.vertex
 
-  reach_on : (p : Placed) → Holds s p → Reach p → All (λ (l : Slot). Reached s l.target) p.table.slots
+  reach_on : (p : Placed) → Holds s p → Reach p → AllByRecursion (λ (l : Slot). Reached s l.target) p.table.slots
   reach_on p h r =
       All-weaker (Has p.table.slots) (λ (l : Slot). Reached s l.target)
       (λ l i. onward p.vertex h.0 l r h.1 (has_shuffled p.table.slots (slots_of h.0.links) l h.2.slots i))
       p.table.slots (all_has_itself p.table.slots)
 
-  reach_from : (p : ℕ) (ts : List ℕ) → All (λ (l : Slot). Reached s l.target) (slots_from p ts) → All (Reached s) ts
+  reach_from : (p : ℕ) (ts : List ℕ) → AllByRecursion (λ (l : Slot). Reached s l.target) (slots_from p ts) → AllByRecursion (Reached s) ts
   reach_from p [] h = tt
   reach_from p (t ∷ ts) h = (h.0, reach_from (p + 2) ts h.1)
 
   -- what stands below tables that are reached
-  reach_each : {X : Type 0} (r : X → ℕ) (f : X → List Placed) → ((x : X) → Reached s (r x) → All (Holds s) (f x) → All Reach (f x))
-      → (xs : List X) → All (Reached s) (map r xs) → All (Holds s) (flat_map f xs) → All Reach (flat_map f xs)
+  reach_each : {X : Type 0} (r : X → ℕ) (f : X → List Placed) → ((x : X) → Reached s (r x) → AllByRecursion (Holds s) (f x) → AllByRecursion Reach (f x))
+      → (xs : List X) → AllByRecursion (Reached s) (map r xs) → AllByRecursion (Holds s) (flat_map f xs) → AllByRecursion Reach (flat_map f xs)
   reach_each r f h [] a b = tt
   reach_each r f h (x ∷ xs) a b =
       let c = all_parts_lem (Holds s) (f x) (flat_map f xs) b in
       All-append Reach (f x) (flat_map f xs) (h x a.0 c.0) (reach_each r f h xs a.1 c.1)
 
-  reach_ligatures : (c : ℕ) (gs : List Ligature) → All (Reached s) (map (λ (g : Ligature). g.vertex) gs) → All Reach (map (ligature_table c) gs)
+  reach_ligatures : (c : ℕ) (gs : List Ligature) → AllByRecursion (Reached s) (map (λ (g : Ligature). g.vertex) gs) → AllByRecursion Reach (map (ligature_table c) gs)
   reach_ligatures c [] h = tt
   reach_ligatures c (g ∷ gs) h = (h.0, reach_ligatures c gs h.1)
 
-  reach_set : (c : ℕ) (t : LigatureSet) → Reached s t.vertex → All (Holds s) (set_walk c t) → All Reach (set_walk c t)
+  reach_set : (c : ℕ) (t : LigatureSet) → Reached s t.vertex → AllByRecursion (Holds s) (set_walk c t) → AllByRecursion Reach (set_walk c t)
   reach_set c t r h = (r, reach_ligatures c t.ligatures (reach_from 2 (map (λ (g : Ligature). g.vertex) t.ligatures) (reach_on (set_table c t) h.0 r)))
 
-  reach_below : (x : Subtable) → Reached s x.vertex → All (Holds s) (subtable_table x ∷ coverage_table x ∷ flat_map (set_walk x.coverage) x.sets) → All Reach (subtable_table x ∷ coverage_table x ∷ flat_map (set_walk x.coverage) x.sets)
+  reach_below : (x : Subtable) → Reached s x.vertex → AllByRecursion (Holds s) (subtable_table x ∷ coverage_table x ∷ flat_map (set_walk x.coverage) x.sets) → AllByRecursion Reach (subtable_table x ∷ coverage_table x ∷ flat_map (set_walk x.coverage) x.sets)
   reach_below x r h =
       let a = reach_on (subtable_table x) h.0 r in
       (r, (a.0, reach_each (λ (t : LigatureSet). t.vertex) (set_walk x.coverage) (reach_set x.coverage) x.sets (reach_from 6 (map (λ (t : LigatureSet). t.vertex) x.sets) a.1) h.1.1))
 
-  reach_wrapped : (o : Option ℕ) (u : ℕ) (ps : List Placed) → (Reached s u → All (Holds s) ps → All Reach ps) → Reached s (head_or o u) → All (Holds s) (extension_walk o u ++ ps) → All Reach (extension_walk o u ++ ps)
+  reach_wrapped : (o : Option ℕ) (u : ℕ) (ps : List Placed) → (Reached s u → AllByRecursion (Holds s) ps → AllByRecursion Reach ps) → Reached s (head_or o u) → AllByRecursion (Holds s) (extension_walk o u ++ ps) → AllByRecursion Reach (extension_walk o u ++ ps)
   reach_wrapped None u ps f r h = f r h
   reach_wrapped (Some e) u ps f r h = (r, f (reach_on (extension_table e u) h.0 r).0 h.1)
 
-  reach_subtable : (x : Subtable) → Reached s (head x) → All (Holds s) (subtable_walk x) → All Reach (subtable_walk x)
+  reach_subtable : (x : Subtable) → Reached s (head x) → AllByRecursion (Holds s) (subtable_walk x) → AllByRecursion Reach (subtable_walk x)
   reach_subtable x = reach_wrapped x.extension x.vertex (subtable_table x ∷ coverage_table x ∷ flat_map (set_walk x.coverage) x.sets) (reach_below x)
 
-  reach_lookup : (l : Lookup) → Reached s l.vertex → All (Holds s) (lookup_walk l) → All Reach (lookup_walk l)
+  reach_lookup : (l : Lookup) → Reached s l.vertex → AllByRecursion (Holds s) (lookup_walk l) → AllByRecursion Reach (lookup_walk l)
   reach_lookup l r h =
       (r, reach_each (λ (x : Subtable). head x) subtable_walk reach_subtable l.subtables (reach_from 6 (map (λ (x : Subtable). head x) l.subtables) (reach_on (lookup_table l) h.0 r)) h.1)
 
-  pub reach_walk : (m : Model) → s.roots ≡ map (λ (l : Lookup). l.vertex) m.lookups → All (Holds s) (model_walk m) → All Reach (model_walk m)
+  pub reach_walk : (m : Model) → s.roots ≡ map (λ (l : Lookup). l.vertex) m.lookups → AllByRecursion (Holds s) (model_walk m) → AllByRecursion Reach (model_walk m)
   reach_walk m e h =
       reach_each (λ (l : Lookup). l.vertex) lookup_walk reach_lookup m.lookups
-      (subst (All (Reached s)) e (All-weaker (Has s.roots) (Reached s) (λ v i. root v i) s.roots (all_has_itself s.roots))) h
+      (subst (AllByRecursion (Reached s)) e (All-weaker (Has s.roots) (Reached s) (λ v i. root v i) s.roots (all_has_itself s.roots))) h
 
 module _ (meaning : List ℕ → Option Meant) (s : Stream) (m : Model) (h : Loaded meaning s m) where
   pub size : m.taken.vertices ≡ length s.tables
@@ -266,7 +266,7 @@ module _ (meaning : List ℕ → Option Meant) (s : Stream) (m : Model) (h : Loa
       (full m.taken.vertices (map vertex_of (model_walk m)) h.good.distinct (All-map (λ u. u < m.taken.vertices) vertex_of (model_walk m) h.good.below) (length-map (model_walk m) vertex_of ∙ h.good.vertices) v (omega arith))
       e
 
-  pub none_loose : All (SoundAt m.taken.vertices) (model_walk m) → Never (Loosely s)
+  pub none_loose : AllByRecursion (SoundAt m.taken.vertices) (model_walk m) → Never (Loosely s)
   none_loose sound v x =
       let a = held v x.0 x.1 in
       in_place s m.taken.vertices x.0 a.placed.table size (all-nth (SoundAt m.taken.vertices) (model_walk m) a.index a.placed a.there sound) a.spelt a.virtuals x.2

@@ -1,6 +1,6 @@
 -- Lists for the proofs about loading: elements by number, sums over all numbers below a bound.
 use Rattle.std.proofs.Common.{◌≡◌, ℕ, zero, suc, ◌+◌, ◌*◌, ◌/◌, ◌%◌, ◌<◌, ◌≤◌, Bool, cond, List, [], ◌∷◌, map, length, get_or, Some, sum_by, count_by, sym, refl, ap, ◌∙◌, ⊎_elim, arith}
-use Rattle.std.specs.List.{ContainsAt as Has, AllByRecursion as All, range_with_len}
+use Rattle.std.specs.List.{ContainsAt as Has, AllByRecursion, range_with_len}
 use Rattle.std.proofs.lemmas.List.Sums.{sum_by-cons}
 use Rattle.std.proofs.lemmas.Bool.{cases_eq}
 use Rattle.words.proofs.Saying.{none_some}
@@ -91,7 +91,7 @@ value_bytes_values (x ∷ y ∷ bs) h e =
     let b : (x * 256 + y) % 256 ≡ y = omega arith in
     ap (λ t. t ∷ (x * 256 + y) % 256 ∷ value_bytes (values bs)) a ∙ ap (λ t. x ∷ t ∷ value_bytes (values bs)) b ∙ ap (λ t. x ∷ y ∷ t) rest
 
-pub values_small : (bs : List ℕ) → Bytes bs → All (λ v. v < 65536) (values bs)
+pub values_small : (bs : List ℕ) → Bytes bs → AllByRecursion (λ v. v < 65536) (values bs)
 values_small [] h = tt
 values_small (x ∷ []) h = tt
 values_small (x ∷ y ∷ bs) h =

@@ -1,6 +1,6 @@
 -- A list of words has one outcome: one refusal or one model.
 use Rattle.std.proofs.Common.{◌≡◌, ℕ, Bool, true, false, ◌⊎◌, List, [], ◌∷◌, map, length, is_some, Some, None, Ok, Err, Option, Result, sym, refl, ap, ◌∙◌, subst, inl, inr, ⊎_elim, arith}
-use Rattle.std.specs.List.{flat_map, AllByRecursion as All}
+use Rattle.std.specs.List.{flat_map, AllByRecursion}
 use Rattle.std.proofs.lemmas.Bool.{both_ways, cases_order}
 use Rattle.refusals.specs.declared.Pool.{Pool}
 use Rattle.refusals.specs.declared.Refusal.{Refusal}
@@ -31,7 +31,7 @@ module _ (s : Stream) where
       (a.0, a.2, subst (λ u. Spelt u q.table) same b.2)
 
   same_ligatures : (c d : ℕ) (gs hs : List Ligature) → map (λ (g : Ligature). g.vertex) gs ≡ map (λ (g : Ligature). g.vertex) hs
-      → All (Holds s) (map (ligature_table c) gs) → All (Holds s) (map (ligature_table d) hs) → gs ≡ hs
+      → AllByRecursion (Holds s) (map (ligature_table c) gs) → AllByRecursion (Holds s) (map (ligature_table d) hs) → gs ≡ hs
   same_ligatures c d [] [] e a b = refl
   same_ligatures c d [] (h ∷ hs) e a b = absurd (cons_nil (sym e))
   same_ligatures c d (g ∷ gs) [] e a b = absurd (cons_nil e)
@@ -44,7 +44,7 @@ module _ (s : Stream) where
       λ i. same i ∷ rest i
 
   same_sets : (c d : ℕ) (ys zs : List LigatureSet) → map (λ (y : LigatureSet). y.vertex) ys ≡ map (λ (y : LigatureSet). y.vertex) zs → map (λ (y : LigatureSet). y.first) ys ≡ map (λ (y : LigatureSet). y.first) zs
-      → All (λ y. All (Holds s) (set_walk c y)) ys → All (λ y. All (Holds s) (set_walk d y)) zs → ys ≡ zs
+      → AllByRecursion (λ y. AllByRecursion (Holds s) (set_walk c y)) ys → AllByRecursion (λ y. AllByRecursion (Holds s) (set_walk d y)) zs → ys ≡ zs
   same_sets c d [] [] e f a b = refl
   same_sets c d [] (z ∷ zs) e f a b = absurd (cons_nil (sym e))
   same_sets c d (y ∷ ys) [] e f a b = absurd (cons_nil e)
@@ -57,7 +57,7 @@ module _ (s : Stream) where
       let rest = same_sets c d ys zs (same_tail y.vertex z.vertex (map (λ (x : LigatureSet). x.vertex) ys) (map (λ (x : LigatureSet). x.vertex) zs) e) (same_tail y.first z.first (map (λ (x : LigatureSet). x.first) ys) (map (λ (x : LigatureSet). x.first) zs) f) a.1 b.1 in
       λ i. same i ∷ rest i
 
-  same_heads : (w : Bool) (o p : Option ℕ) (u v : ℕ) → is_some o ≡ w → is_some p ≡ w → head_or o u ≡ head_or p v → All (Holds s) (extension_walk o u) → All (Holds s) (extension_walk p v) → (o ≡ p) × (u ≡ v)
+  same_heads : (w : Bool) (o p : Option ℕ) (u v : ℕ) → is_some o ≡ w → is_some p ≡ w → head_or o u ≡ head_or p v → AllByRecursion (Holds s) (extension_walk o u) → AllByRecursion (Holds s) (extension_walk p v) → (o ≡ p) × (u ≡ v)
   same_heads w None None u v a b e x y = (refl, e)
   same_heads w None (Some f) u v a b e x y = absurd (both_ways true (b ∙ sym a) refl)
   same_heads w (Some f) None u v a b e x y = absurd (both_ways true (a ∙ sym b) refl)
@@ -70,7 +70,7 @@ module _ (s : Stream) where
     same_meant gs hs j k e = ap (λ (m : Meant). m.0) (some_same e)
 
     same_subtable : (w : Bool) (x y : Subtable) → is_some x.extension ≡ w → is_some y.extension ≡ w → head x ≡ head y
-        → All (Holds s) (subtable_walk x) → All (Holds s) (subtable_walk y) → GoodSubtable meaning x → GoodSubtable meaning y → x ≡ y
+        → AllByRecursion (Holds s) (subtable_walk x) → AllByRecursion (Holds s) (subtable_walk y) → GoodSubtable meaning x → GoodSubtable meaning y → x ≡ y
     same_subtable w x y p q e a b g k =
         let a' = all_parts_lem (Holds s) (extension_walk x.extension x.vertex) (subtable_table x ∷ coverage_table x ∷ flat_map (set_walk x.coverage) x.sets) a in
         let b' = all_parts_lem (Holds s) (extension_walk y.extension y.vertex) (subtable_table y ∷ coverage_table y ∷ flat_map (set_walk y.coverage) y.sets) b in
@@ -84,7 +84,7 @@ module _ (s : Stream) where
         λ i. record { extension = r.0 i; vertex = r.1 i; coverage = c.0 i; covering = bytes i; sets = sets i }
 
     same_subtables : (w : Bool) (xs ys : List Subtable) → Wrapped w xs → Wrapped w ys → map (λ (x : Subtable). head x) xs ≡ map (λ (x : Subtable). head x) ys
-        → All (λ x. All (Holds s) (subtable_walk x)) xs → All (λ x. All (Holds s) (subtable_walk x)) ys → All (GoodSubtable meaning) xs → All (GoodSubtable meaning) ys → xs ≡ ys
+        → AllByRecursion (λ x. AllByRecursion (Holds s) (subtable_walk x)) xs → AllByRecursion (λ x. AllByRecursion (Holds s) (subtable_walk x)) ys → AllByRecursion (GoodSubtable meaning) xs → AllByRecursion (GoodSubtable meaning) ys → xs ≡ ys
     same_subtables w [] [] p q e a b g k = refl
     same_subtables w [] (y ∷ ys) p q e a b g k = absurd (cons_nil (sym e))
     same_subtables w (x ∷ xs) [] p q e a b g k = absurd (cons_nil e)
@@ -94,7 +94,7 @@ module _ (s : Stream) where
         let rest = same_subtables w xs ys p.1 q.1 (same_tail (head x) (head y) (map (λ (z : Subtable). head z) xs) (map (λ (z : Subtable). head z) ys) e) a.1 b.1 g.1 k.1 in
         λ i. same i ∷ rest i
 
-    same_lookup : (l k : Lookup) → l.vertex ≡ k.vertex → All (Holds s) (lookup_walk l) → All (Holds s) (lookup_walk k) → GoodLookup meaning l → GoodLookup meaning k → l ≡ k
+    same_lookup : (l k : Lookup) → l.vertex ≡ k.vertex → AllByRecursion (Holds s) (lookup_walk l) → AllByRecursion (Holds s) (lookup_walk k) → GoodLookup meaning l → GoodLookup meaning k → l ≡ k
     same_lookup l k e a b g j =
         let t = both_spelt (lookup_table l) (lookup_table k) e a.0 b.0 in
         let r = lookup_same t.0 l k t.1 t.2 in
@@ -113,8 +113,8 @@ module _ (s : Stream) where
             (λ x. ⊎_elim (λ y. let m = x.0 in let n = y.0 in absurd (omega arith)) (λ y. alike false x.1 y.1 r.heads) (kinds meaning k j))
             (kinds meaning l g)
 
-    same_lookups : (ls ks : List Lookup) → map (λ (l : Lookup). l.vertex) ls ≡ map (λ (l : Lookup). l.vertex) ks → All (λ l. All (Holds s) (lookup_walk l)) ls → All (λ l. All (Holds s) (lookup_walk l)) ks
-        → All (GoodLookup meaning) ls → All (GoodLookup meaning) ks → ls ≡ ks
+    same_lookups : (ls ks : List Lookup) → map (λ (l : Lookup). l.vertex) ls ≡ map (λ (l : Lookup). l.vertex) ks → AllByRecursion (λ l. AllByRecursion (Holds s) (lookup_walk l)) ls → AllByRecursion (λ l. AllByRecursion (Holds s) (lookup_walk l)) ks
+        → AllByRecursion (GoodLookup meaning) ls → AllByRecursion (GoodLookup meaning) ks → ls ≡ ks
     same_lookups [] [] e a b g j = refl
     same_lookups [] (k ∷ ks) e a b g j = absurd (cons_nil (sym e))
     same_lookups (l ∷ ls) [] e a b g j = absurd (cons_nil e)

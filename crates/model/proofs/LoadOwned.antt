@@ -1,6 +1,6 @@
 -- In a stream that is a model's tables every place of the walk has the model's table there, and none of them is refused.
 use Rattle.std.proofs.Common.{◌≡◌, ℕ, true, false, List, [], ◌∷◌, ◌++◌, length, get_or, is_some, Some, None, Option, sym, refl, ap, ◌∙◌, subst, inl, inr, ⊎_elim, arith}
-use Rattle.std.specs.List.{flat_map, AllByRecursion as All}
+use Rattle.std.specs.List.{flat_map, AllByRecursion}
 use Rattle.std.specs.Option.{option_to_list}
 use Rattle.std.proofs.lemmas.List.{length-map, nil_from_length}
 use Rattle.std.proofs.lemmas.List.Sorted.{length_permutation}
@@ -70,19 +70,19 @@ module _ (meaning : List ℕ → Option Meant) (s : Stream) (m : Model) (h : Loa
   good_set : (x : Subtable) (y : LigatureSet) → HasSet m x y → GoodSet y
   good_set x y a = all-nth GoodSet x.sets a.index y a.there (good_subtable x a.above).sets
 
-  held_lookup : (l : Lookup) → HasLookup m l → All (Holds s) (lookup_walk l)
-  held_lookup l a = all-nth (λ k. All (Holds s) (lookup_walk k)) m.lookups a.index l a.there (joined_all (Holds s) lookup_walk m.lookups h.tables)
+  held_lookup : (l : Lookup) → HasLookup m l → AllByRecursion (Holds s) (lookup_walk l)
+  held_lookup l a = all-nth (λ k. AllByRecursion (Holds s) (lookup_walk k)) m.lookups a.index l a.there (joined_all (Holds s) lookup_walk m.lookups h.tables)
 
-  held_subtable : (x : Subtable) → HasSubtable m x → All (Holds s) (extension_walk x.extension x.vertex) × All (Holds s) (subtable_table x ∷ coverage_table x ∷ flat_map (set_walk x.coverage) x.sets)
+  held_subtable : (x : Subtable) → HasSubtable m x → AllByRecursion (Holds s) (extension_walk x.extension x.vertex) × AllByRecursion (Holds s) (subtable_table x ∷ coverage_table x ∷ flat_map (set_walk x.coverage) x.sets)
   held_subtable x a =
       all_parts_lem (Holds s) (extension_walk x.extension x.vertex) (subtable_table x ∷ coverage_table x ∷ flat_map (set_walk x.coverage) x.sets)
-      (all-nth (λ y. All (Holds s) (subtable_walk y)) a.lookup.subtables a.index x a.there (joined_all (Holds s) subtable_walk a.lookup.subtables (held_lookup a.lookup a.above).1))
+      (all-nth (λ y. AllByRecursion (Holds s) (subtable_walk y)) a.lookup.subtables a.index x a.there (joined_all (Holds s) subtable_walk a.lookup.subtables (held_lookup a.lookup a.above).1))
 
   held_extension : (x : Subtable) (e : ℕ) → HasSubtable m x → x.extension ≡ Some e → Holds s (extension_table e x.vertex)
-  held_extension x e a i = (subst (λ o. All (Holds s) (extension_walk o x.vertex)) i (held_subtable x a).0).0
+  held_extension x e a i = (subst (λ o. AllByRecursion (Holds s) (extension_walk o x.vertex)) i (held_subtable x a).0).0
 
-  held_set : (x : Subtable) (y : LigatureSet) → HasSet m x y → All (Holds s) (set_walk x.coverage y)
-  held_set x y a = all-nth (λ z. All (Holds s) (set_walk x.coverage z)) x.sets a.index y a.there (joined_all (Holds s) (set_walk x.coverage) x.sets (held_subtable x a.above).1.1.1)
+  held_set : (x : Subtable) (y : LigatureSet) → HasSet m x y → AllByRecursion (Holds s) (set_walk x.coverage y)
+  held_set x y a = all-nth (λ z. AllByRecursion (Holds s) (set_walk x.coverage z)) x.sets a.index y a.there (joined_all (Holds s) (set_walk x.coverage) x.sets (held_subtable x a.above).1.1.1)
 
   held_ligature : (x : Subtable) (y : LigatureSet) (g : Ligature) (n : ℕ) → HasSet m x y → nth y.ligatures n ≡ Some g → Holds s (ligature_table x.coverage g)
   held_ligature x y g n a i = all-nth (λ z. Holds s (ligature_table x.coverage z)) y.ligatures n g i (all_mapped (Holds s) (ligature_table x.coverage) y.ligatures (held_set x y a).1)

@@ -1,6 +1,6 @@
 -- A table of the stream is the table of one lookup, subtable, set or ligature at most.
 use Rattle.std.proofs.Common.{◌≡◌, ℕ, zero, suc, ◌+◌, ◌<◌, ◌≤◌, ◌⊎◌, List, [], ◌∷◌, ◌++◌, map, length, get_or, Some, None, Option, sym, refl, ap, ◌∙◌, inl, inr, ⊎_elim, arith}
-use Rattle.std.specs.List.{ContainsAt as Has, AllByRecursion as All}
+use Rattle.std.specs.List.{ContainsAt as Has, AllByRecursion}
 use Rattle.std.specs.Option.{option_to_list}
 use Rattle.std.proofs.lemmas.List.{append_cancel_left}
 use Rattle.std.proofs.ByRecursion.{all-has, has_shuffled}
@@ -43,7 +43,7 @@ up_lower : (a b : ℕ) (ls : List Slot) → b ≤ a → Up a ls → Up b ls
 up_lower a b [] h u = tt
 up_lower a b (l ∷ ls) h u = (let k = u.0 in omega arith, u.1)
 
-up_all : (a : ℕ) (ls : List Slot) → Up a ls → All (From a) ls
+up_all : (a : ℕ) (ls : List Slot) → Up a ls → AllByRecursion (From a) ls
 up_all a [] u = tt
 up_all a (l ∷ ls) u = (u.0, up_all a ls (up_lower (suc l.position) a ls (let k = u.0 in omega arith) u.1))
 

@@ -1,6 +1,6 @@
 -- What is asked of a stream can be settled: loose links, reached vertices, strays; and the lowest vertex of a kind can be found.
 use Rattle.std.proofs.Common.{◌≡◌, ℕ, zero, suc, ◌+◌, ◌<◌, ◌≤◌, ◌⊎◌, List, [], ◌∷◌, ◌++◌, map, length, Some, None, sum_by, count_by, Option, sym, refl, ap, ◌∙◌, subst, inl, inr, ⊎_elim, arith}
-use Rattle.std.specs.List.{ContainsAt as Has, flat_map, AllByRecursion as All, range_with_len}
+use Rattle.std.specs.List.{ContainsAt as Has, flat_map, AllByRecursion, range_with_len}
 use Rattle.std.proofs.lemmas.List.Sums.{sum_by-cons}
 use Rattle.std.proofs.ByRecursion.{has_append_left, has_append_right, all-has}
 use Rattle.std.proofs.lemmas.Bool.{cases_eq, cases_lt}
@@ -149,7 +149,7 @@ map-has : {X Y : Type 0} (f : X → Y) (xs : List X) (y : Y) → Has (map f xs) 
 map-has f [] y h = absurd (has_none y h)
 map-has f (z ∷ xs) y h = ⊎_elim (λ e. (z, has_first z xs, e)) (λ i. let r = map-has f xs y i in (r.0, has_later z xs r.0 r.1, r.2)) (has_cases (f z) (map f xs) y h)
 
-short_distinct : (n : ℕ) (vs : List ℕ) → Distinct vs → All (λ v. v < n) vs → length vs ≤ n
+short_distinct : (n : ℕ) (vs : List ℕ) → Distinct vs → AllByRecursion (λ v. v < n) vs → length vs ≤ n
 short_distinct n vs d b =
     let c = counted_all n vs b in
     let m = most 0 n in
@@ -163,20 +163,20 @@ abbrev next_of : Option StreamTable → List ℕ
 next_of None = []
 next_of (Some t) = map (λ (l : Slot). l.target) (slots_of t.links)
 
-module _ (s : Stream) (rooted : All (λ r. r < length s.tables) s.roots) (tight : Never (Loosely s)) where
+module _ (s : Stream) (rooted : AllByRecursion (λ r. r < length s.tables) s.roots) (tight : Never (Loosely s)) where
   abbrev candidates : List ℕ → List ℕ
   candidates marks = s.roots ++ flat_map (λ u. next_of (nth s.tables u)) marks
 
   record Marked (marks : List ℕ) : Type 0 where
-    reached : All (Reached s) marks
+    reached : AllByRecursion (Reached s) marks
     distinct : Distinct marks
-    below : All (λ v. v < length s.tables) marks
+    below : AllByRecursion (λ v. v < length s.tables) marks
 
   abbrev Closed : List ℕ → Type 0
   Closed marks = (v : ℕ) → Has (candidates marks) v → count_of v marks ≡ 0 → ⊥
 
   -- where a candidate comes from
-  candidate : (marks : List ℕ) (v : ℕ) → All (Reached s) marks → Has (candidates marks) v → Reached s v × (v < length s.tables)
+  candidate : (marks : List ℕ) (v : ℕ) → AllByRecursion (Reached s) marks → Has (candidates marks) v → Reached s v × (v < length s.tables)
   candidate marks v r h =
       ⊎_elim
       (λ i. (root v i, all-has (λ x. x < length s.tables) s.roots v rooted i))

@@ -1,6 +1,6 @@
 -- A model that is read off a stream's tables, of good lookups at the roots, is loaded from it if no vertex strays: each table of the stream stands in it just once.
 use Rattle.std.proofs.Common.{◌≡◌, ℕ, zero, suc, ◌+◌, ◌*◌, ◌<◌, ◌≤◌, eqb, List, [], ◌∷◌, map, length, Some, None, sum_by, Option, sym, refl, ap, ◌∙◌, subst, ⊎_elim, add-mul, one-mul, mul-zero, zero-mul, mul-one, arith}
-use Rattle.std.specs.List.{ContainsAt as Has, AllByRecursion as All, range_with_len}
+use Rattle.std.specs.List.{ContainsAt as Has, AllByRecursion, range_with_len}
 use Rattle.std.proofs.lemmas.List.{length-append, length-map}
 use Rattle.std.proofs.lemmas.List.Sums.{sum_by-cons}
 use Rattle.std.proofs.ByRecursion.{All-map, All-weaker}
@@ -39,7 +39,7 @@ has_target (k ∷ ls) l h =
     (λ i. let r = has_target ls l i in omega arith)
     (has_cases k ls l h)
 
-distinct_from : (n : ℕ) (vs : List ℕ) → All (λ v. v < n) vs → ((v : ℕ) → v < n → count_of v vs ≤ 1) → Distinct vs
+distinct_from : (n : ℕ) (vs : List ℕ) → AllByRecursion (λ v. v < n) vs → ((v : ℕ) → v < n → count_of v vs ≤ 1) → Distinct vs
 distinct_from n [] b h = tt
 distinct_from n (u ∷ vs) b h = (
   let o = one_same u u refl in let l = h u b.0 in omega arith,
@@ -101,7 +101,7 @@ sum_eq : (f g : ℕ → ℕ) → ((v : ℕ) → f v ≡ g v) → (cs : List ℕ)
 sum_eq f g h cs = tally_sum f cs ∙ tally_same f g h cs ∙ sym (tally_sum g cs)
 
 -- a sum over tables is one over numbers, each as often as it stands there
-by_number : (g : ℕ → ℕ) (n : ℕ) (vs : List ℕ) → All (λ v. v < n) vs → sum_by g vs ≡ sum_by (λ u. count_of u vs * g u) (range_with_len 0 n)
+by_number : (g : ℕ → ℕ) (n : ℕ) (vs : List ℕ) → AllByRecursion (λ v. v < n) vs → sum_by g vs ≡ sum_by (λ u. count_of u vs * g u) (range_with_len 0 n)
 by_number g n [] h = sym (sum_zero (λ u. 0 * g u) 0 n (λ u. zero-mul (g u)))
 by_number g n (v ∷ vs) h =
     let c = sum_by-cons g v vs in
@@ -114,7 +114,7 @@ by_number g n (v ∷ vs) h =
     let z = sum_zero (λ u. 0) 0 n (λ u. refl) in
     omega arith
 
-sum_mapped : (f : Placed → ℕ) (g : ℕ → ℕ) (ps : List Placed) → All (λ (p : Placed). f p ≡ g p.vertex) ps → sum_by f ps ≡ sum_by g (map vertex_of ps)
+sum_mapped : (f : Placed → ℕ) (g : ℕ → ℕ) (ps : List Placed) → AllByRecursion (λ (p : Placed). f p ≡ g p.vertex) ps → sum_by f ps ≡ sum_by g (map vertex_of ps)
 sum_mapped f g [] h = refl
 sum_mapped f g (p ∷ ps) h = let a = sum_by-cons f p ps in let b = sum_by-cons g p.vertex (map vertex_of ps) in let e = h.0 in let r = sum_mapped f g ps h.1 in omega arith
 
@@ -136,17 +136,17 @@ links_parted [] = refl
 links_parted (real w p t ∷ ls) = let r = links_parted ls in omega arith
 links_parted (virtual t ∷ ls) = let r = links_parted ls in omega arith
 
-module _ (s : Stream) (m : Model) (tables : All (Holds s) (model_walk m)) (roots : s.roots ≡ map (λ (l : Lookup). l.vertex) m.lookups) (strays : Never (Strays s)) where
+module _ (s : Stream) (m : Model) (tables : AllByRecursion (Holds s) (model_walk m)) (roots : s.roots ≡ map (λ (l : Lookup). l.vertex) m.lookups) (strays : Never (Strays s)) where
   abbrev size : ℕ
   size = length s.tables
 
   abbrev times : ℕ → ℕ
   times v = count_of v (map vertex_of (model_walk m))
 
-  below : All (λ (p : Placed). p.vertex < size) (model_walk m)
+  below : AllByRecursion (λ (p : Placed). p.vertex < size) (model_walk m)
   below = All-weaker (Holds s) (λ (p : Placed). p.vertex < size) (λ p h. nth_below s.tables p.vertex h.0 h.1) (model_walk m) tables
 
-  numbers_below : All (λ v. v < size) (map vertex_of (model_walk m))
+  numbers_below : AllByRecursion (λ v. v < size) (map vertex_of (model_walk m))
   numbers_below = All-map (λ v. v < size) vertex_of (model_walk m) below
 
   -- a number that tables of model and stream share, over the walk
@@ -242,7 +242,7 @@ module _ (s : Stream) (m : Model) (tables : All (Holds s) (model_walk m)) (roots
   bytes_same : (p : Placed) (t : StreamTable) → Spelt t p.table → length p.table.bytes ≡ 2 * length t.values
   bytes_same p t h = ap length (sym h.bytes) ∙ length-value_bytes t.values
 
-  pub read_whole : (meaning : List ℕ → Option Meant) → All (GoodLookup meaning) m.lookups → m.taken ≡ taken_by s → Loaded meaning s m
+  pub read_whole : (meaning : List ℕ → Option Meant) → AllByRecursion (GoodLookup meaning) m.lookups → m.taken ≡ taken_by s → Loaded meaning s m
   read_whole meaning good taken =
       let v : m.taken.vertices ≡ size = ap (λ (t : Taken). t.vertices) taken in
       let l : m.taken.links ≡ links_in s.tables = ap (λ (t : Taken). t.links) taken in
@@ -253,7 +253,7 @@ module _ (s : Stream) (m : Model) (tables : All (Holds s) (model_walk m)) (roots
         good = record {
           lookups = good;
           distinct = distinct;
-          below = subst (λ n. All (λ (p : Placed). p.vertex < n) (model_walk m)) (sym v) below;
+          below = subst (λ n. AllByRecursion (λ (p : Placed). p.vertex < n) (model_walk m)) (sym v) below;
           vertices = whole ∙ sym v;
           links = over_all (λ (t : StreamTable). length t.links) links_of links_same ∙ sym (links_in_lem s.tables) ∙ sym l;
           room = omega arith;

@@ -1,6 +1,6 @@
 -- The bytes that a split takes: by the rule, table by table, and no fewer than the tables need.
 use Rattle.std.proofs.Common.{◌≡◌, ℕ, zero, suc, ◌+◌, ◌*◌, ◌<◌, ◌≤◌, Bool, true, false, cond, List, [], ◌∷◌, ◌++◌, length, sum_by, filter, sym, refl, ap, ◌∙◌, subst, ⊎_elim, arith}
-use Rattle.std.specs.List.{AllByRecursion as All}
+use Rattle.std.specs.List.{AllByRecursion}
 use Rattle.std.proofs.lemmas.Bool.{cases_Bool, cond-true, cond-false}
 use Rattle.model.specs.Forest.{LigatureSet, Subtable}
 use Rattle.model.specs.Cutting.{Entry, entries, parts}
@@ -40,7 +40,7 @@ new_room own fresh (t ∷ us) =
 
 -- THE RULE
 module _ (first : ℕ) (wrapped : Bool) (wrote : ℕ → List ℕ) (c : ℕ) (kept : List Entry) where
-  pieces-take : (fresh : ℕ) (ps : List (List Entry)) → first ≤ fresh → All (OldPart first) ps
+  pieces-take : (fresh : ℕ) (ps : List (List Entry)) → first ≤ fresh → AllByRecursion (OldPart first) ps
       → tally reserved (piece_parts c kept fresh ps) + cond wrapped 8 0 * length ps ≡ tally (piece_bytes first wrapped c) (pieces wrote kept fresh ps) + tally coverage_bytes (pieces wrote kept fresh ps)
   pieces-take fresh [] l h = omega arith
   pieces-take fresh (p ∷ later) l h =
@@ -68,7 +68,7 @@ extended_tally f h fresh (s ∷ ss) =
     omega arith
 
 module _ (first : ℕ) (wrote : ℕ → List ℕ) (fresh : ℕ) (s : Subtable) where
-  parted_take : (wrapped : Bool) (kept p : List Entry) (ps : List (List Entry)) → first ≤ fresh → All (OldPart first) (p ∷ ps)
+  parted_take : (wrapped : Bool) (kept p : List Entry) (ps : List (List Entry)) → first ≤ fresh → AllByRecursion (OldPart first) (p ∷ ps)
       → tally reserved (divided_parts wrapped fresh s (kept ∷ p ∷ ps)) ≡ divided_bytes first wrapped s (divided wrapped wrote fresh s (kept ∷ p ∷ ps))
   parted_take true kept p ps l h =
       let c = length s.sets in
@@ -95,7 +95,7 @@ module _ (first : ℕ) (wrote : ℕ → List ℕ) (fresh : ℕ) (s : Subtable) w
       let j : sum_by coverage_bytes (remains wrote s kept ∷ many) ≡ coverage_bytes (remains wrote s kept) + tally coverage_bytes many = tally_sum coverage_bytes (remains wrote s kept ∷ many) in
       omega arith
 
-  divided-take : (wrapped : Bool) (kept : List Entry) (later : List (List Entry)) → first ≤ fresh → All (OldPart first) later
+  divided-take : (wrapped : Bool) (kept : List Entry) (later : List (List Entry)) → first ≤ fresh → AllByRecursion (OldPart first) later
       → tally reserved (divided_parts wrapped fresh s (kept ∷ later)) ≡ divided_bytes first wrapped s (divided wrapped wrote fresh s (kept ∷ later))
   divided-take wrapped kept [] l h = refl
   divided-take wrapped kept (p ∷ ps) l h = parted_take wrapped kept p ps l h
@@ -131,7 +131,7 @@ groups_at_most ts p h =
 abbrev SomeGroup : Group → Type 0
 SomeGroup u = 0 < length u.ligatures
 
-new_need : (own : ℕ → Bool) (fresh : ℕ) (us : List Group) → All SomeGroup us → tally_up (λ v. 4) fresh (new_sets own us) ≤ tally reserved (new_set_parts own fresh us)
+new_need : (own : ℕ → Bool) (fresh : ℕ) (us : List Group) → AllByRecursion SomeGroup us → tally_up (λ v. 4) fresh (new_sets own us) ≤ tally reserved (new_set_parts own fresh us)
 new_need own fresh [] h = omega arith
 new_need own fresh (t ∷ us) h =
     ⊎_elim
@@ -151,7 +151,7 @@ new_need own fresh (t ∷ us) h =
     omega arith)
     (cases_Bool (own t.set))
 
-pieces_need : (wrote : ℕ → List ℕ) (c : ℕ) (kept : List Entry) (fresh : ℕ) (ps : List (List Entry)) → 0 < c → All Short (pieces wrote kept fresh ps)
+pieces_need : (wrote : ℕ → List ℕ) (c : ℕ) (kept : List Entry) (fresh : ℕ) (ps : List (List Entry)) → 0 < c → AllByRecursion Short (pieces wrote kept fresh ps)
     → added_pieces byte_weights wrote kept fresh ps ≤ tally reserved (piece_parts c kept fresh ps)
 pieces_need wrote c kept fresh [] l h = omega arith
 pieces_need wrote c kept fresh (p ∷ later) l h =
@@ -169,7 +169,7 @@ pub tally_up_eights : (k n : ℕ) → tally_up (λ v. 8) k n ≡ 8 * n
 tally_up_eights k zero = refl
 tally_up_eights k (suc n) = let a = tally_up_eights (suc k) n in omega arith
 
-pub short_bare : (fresh : ℕ) (ss : List Subtable) → All Short (extended fresh ss) → All Short ss
+pub short_bare : (fresh : ℕ) (ss : List Subtable) → AllByRecursion Short (extended fresh ss) → AllByRecursion Short ss
 short_bare fresh [] h = tt
 short_bare fresh (s ∷ ss) h = (h.0, short_bare (suc fresh) ss h.1)
 
@@ -181,7 +181,7 @@ some_sets [] (e ∷ es) h l =
 some_sets (t ∷ ts) (e ∷ es) h l = omega arith
 
 module _ (wrote : ℕ → List ℕ) (fresh : ℕ) (s : Subtable) where
-  parted_need : (wrapped : Bool) (kept p : List Entry) (ps : List (List Entry)) → Cut-up s.sets kept (p ∷ ps) → All Short (divided wrapped wrote fresh s (kept ∷ p ∷ ps))
+  parted_need : (wrapped : Bool) (kept p : List Entry) (ps : List (List Entry)) → Cut-up s.sets kept (p ∷ ps) → AllByRecursion Short (divided wrapped wrote fresh s (kept ∷ p ∷ ps))
       → length (wrote s.coverage) + added_divided byte_weights wrapped wrote fresh (kept ∷ p ∷ ps) ≤ tally reserved (divided_parts wrapped fresh s (kept ∷ p ∷ ps))
   parted_need true kept p ps u h =
       let c = length s.sets in
@@ -206,25 +206,25 @@ module _ (wrote : ℕ → List ℕ) (fresh : ℕ) (s : Subtable) where
       let g : length (wrote s.coverage) ≤ 4 + 6 * length (sets_of (λ i. true) 0 (groups kept)) = h.0 in
       omega arith
 
-  divided_need : (wrapped : Bool) (kept : List Entry) (later : List (List Entry)) → Cut-up s.sets kept later → All Short (divided wrapped wrote fresh s (kept ∷ later))
+  divided_need : (wrapped : Bool) (kept : List Entry) (later : List (List Entry)) → Cut-up s.sets kept later → AllByRecursion Short (divided wrapped wrote fresh s (kept ∷ later))
       → kept_coverage byte_weights wrote s (kept ∷ later) + added_divided byte_weights wrapped wrote fresh (kept ∷ later) ≤ length s.covering + tally reserved (divided_parts wrapped fresh s (kept ∷ later))
   divided_need true kept [] u h = omega arith
   divided_need false kept [] u h = omega arith
   divided_need wrapped kept (p ∷ ps) u h = let a = parted_need wrapped kept p ps u h in omega arith
 
-  one_needs : (ceiling : ℕ) (wrapped : Bool) → All Short (divided wrapped wrote fresh s (parts ceiling (entries s)))
+  one_needs : (ceiling : ℕ) (wrapped : Bool) → AllByRecursion Short (divided wrapped wrote fresh s (parts ceiling (entries s)))
       → kept_coverage byte_weights wrote s (parts ceiling (entries s)) + added_divided byte_weights wrapped wrote fresh (parts ceiling (entries s))
       ≤ length s.covering + tally reserved (divided_parts wrapped fresh s (parts ceiling (entries s)))
   one_needs ceiling wrapped =
       let d = parts_cut_up ceiling s in
       subst
       (λ (ps : List (List Entry)).
-      All Short (divided wrapped wrote fresh s ps) → kept_coverage byte_weights wrote s ps + added_divided byte_weights wrapped wrote fresh ps ≤ length s.covering + tally reserved (divided_parts wrapped fresh s ps))
+      AllByRecursion Short (divided wrapped wrote fresh s ps) → kept_coverage byte_weights wrote s ps + added_divided byte_weights wrapped wrote fresh ps ≤ length s.covering + tally reserved (divided_parts wrapped fresh s ps))
       (sym d.are) (divided_need wrapped d.kept d.later d.so)
 
 module _ (ceiling : ℕ) (wrapped : Bool) (wrote : ℕ → List ℕ) where
   -- the bill by the rule
-  pub all_take : (first fresh : ℕ) (ss : List Subtable) → first ≤ fresh → All SomeSets ss → All (OldSets first) ss
+  pub all_take : (first fresh : ℕ) (ss : List Subtable) → first ≤ fresh → AllByRecursion SomeSets ss → AllByRecursion (OldSets first) ss
       → tally reserved (all_parts ceiling wrapped fresh ss) ≡ tally (family_bytes first wrapped) (made ceiling wrapped wrote fresh ss)
   all_take first fresh [] l h o = refl
   all_take first fresh (s ∷ ss) l h o =
@@ -236,7 +236,7 @@ module _ (ceiling : ℕ) (wrapped : Bool) (wrote : ℕ → List ℕ) where
       = tally_append reserved (divided_parts wrapped fresh s (parts ceiling (entries s))) (all_parts ceiling wrapped next ss) in
       omega arith
 
-  all_need : (fresh : ℕ) (ss : List Subtable) → All Short (split_all ceiling wrapped wrote fresh ss)
+  all_need : (fresh : ℕ) (ss : List Subtable) → AllByRecursion Short (split_all ceiling wrapped wrote fresh ss)
       → coverages_after byte_weights ceiling wrapped wrote ss + added_all byte_weights ceiling wrapped wrote fresh ss ≤ coverages_before byte_weights ceiling wrapped wrote ss + tally reserved (all_parts ceiling wrapped fresh ss)
   all_need fresh [] h = omega arith
   all_need fresh (s ∷ ss) h =
@@ -250,7 +250,7 @@ module _ (ceiling : ℕ) (wrapped : Bool) (wrote : ℕ → List ℕ) where
       omega arith
 
   -- the tables afterwards need no more bytes than before and what is taken
-  pub split_fits : (fresh : ℕ) (ss : List Subtable) → All SomeSets ss → All Short (split_all ceiling wrapped wrote fresh ss)
+  pub split_fits : (fresh : ℕ) (ss : List Subtable) → AllByRecursion SomeSets ss → AllByRecursion Short (split_all ceiling wrapped wrote fresh ss)
       → tally (of_subtable byte_weights) (split_all ceiling wrapped wrote fresh ss) ≤ tally (of_subtable byte_weights) ss + tally reserved (all_parts ceiling wrapped fresh ss)
   split_fits fresh ss s h =
       let a = split_weighs byte_weights ceiling wrapped wrote fresh ss s in

@@ -1,6 +1,6 @@
 -- The entries of a subtable come set by set, and so do the parts that they are cut into.
 use Rattle.std.proofs.Common.{◌≡◌, ℕ, suc, ◌+◌, ◌<◌, ◌≤◌, Bool, true, false, cond, ◌||◌, eqb, leb, ◌⊎◌, List, [], ◌∷◌, ◌++◌, length, sym, refl, ap, ◌∙◌, inl, inr, arith}
-use Rattle.std.specs.List.{flat_map, AllByRecursion as All}
+use Rattle.std.specs.List.{flat_map, AllByRecursion}
 use Rattle.std.proofs.lemmas.List.{append_assoc}
 use Rattle.std.proofs.ByRecursion.{All-append, All-weaker}
 use Rattle.std.proofs.lemmas.Bool.{eq-eqb, ne_eqb, cond-true, cond-false, cond_both}
@@ -22,10 +22,10 @@ pub record Divides (es : List Entry) (ps : List (List Entry)) : Type 0 where
   pub kept : List Entry
   pub later : List (List Entry)
   pub are : ps ≡ kept ∷ later
-  pub some : All SomeEntries later
+  pub some : AllByRecursion SomeEntries later
   pub whole : kept ++ flat_map itself later ≡ es
 
-first_of : (es : List Entry) (ps : List (List Entry)) → 0 < length ps → All SomeEntries ps → flat_map itself ps ≡ es → Divides es ps
+first_of : (es : List Entry) (ps : List (List Entry)) → 0 < length ps → AllByRecursion SomeEntries ps → flat_map itself ps ≡ es → Divides es ps
 first_of es [] l h e = absurd (omega arith)
 first_of es (p ∷ ps) l h e = record { kept = p; later = ps; are = refl; some = h.1; whole = e }
 
@@ -136,7 +136,7 @@ owned_later i t ts e o =
           omega arith;
     }
 
-owned_set : (i j : ℕ) (t : LigatureSet) (ts : List LigatureSet) (gs : List Ligature) → All (Owned i (t ∷ ts)) (entries_from i j t gs)
+owned_set : (i j : ℕ) (t : LigatureSet) (ts : List LigatureSet) (gs : List Ligature) → AllByRecursion (Owned i (t ∷ ts)) (entries_from i j t gs)
 owned_set i j t ts [] = tt
 owned_set i j t ts (g ∷ gs) = (
   record {
@@ -150,7 +150,7 @@ owned_set i j t ts (g ∷ gs) = (
   owned_set i (suc j) t ts gs,
 )
 
-pub sets_owned : (i : ℕ) (ts : List LigatureSet) → All (Owned i ts) (sets_from i ts)
+pub sets_owned : (i : ℕ) (ts : List LigatureSet) → AllByRecursion (Owned i ts) (sets_from i ts)
 sets_owned i [] = tt
 sets_owned i (t ∷ ts) =
     All-append (Owned i (t ∷ ts)) (entries_from i 0 t t.ligatures) (sets_from (suc i) ts) (owned_set i 0 t ts t.ligatures)
@@ -180,7 +180,7 @@ has_first : (i : ℕ) (t : LigatureSet) (gs : List Ligature) (rest : List Entry)
 has_first i t [] rest l = absurd (omega arith)
 has_first i t (g ∷ gs) rest l = ap (λ b. b || has i (entries_from i 1 t gs ++ rest)) (eq-eqb i i refl)
 
-pub all-present : (w : ℕ → ℕ) (pre : List Entry) (i : ℕ) (ts : List LigatureSet) → All SomeLigatures ts
+pub all-present : (w : ℕ → ℕ) (pre : List Entry) (i : ℕ) (ts : List LigatureSet) → AllByRecursion SomeLigatures ts
     → tally_sets (λ k t. cond (has k (pre ++ sets_from i ts)) (w t.vertex) 0) i ts ≡ tally (λ (t : LigatureSet). w t.vertex) ts
 all-present w pre i [] h = refl
 all-present w pre i (t ∷ ts) h =
@@ -220,7 +220,7 @@ first_one i t (g ∷ gs) l =
     let b = opens_here (entry i 0 t g) refl in
     omega arith
 
-pub sets_opening : (i : ℕ) (ts : List LigatureSet) → All SomeLigatures ts → tally opening (sets_from i ts) ≡ length ts
+pub sets_opening : (i : ℕ) (ts : List LigatureSet) → AllByRecursion SomeLigatures ts → tally opening (sets_from i ts) ≡ length ts
 sets_opening i [] h = refl
 sets_opening i (t ∷ ts) h =
     let a = tally_append opening (entries_from i 0 t t.ligatures) (sets_from (suc i) ts) in

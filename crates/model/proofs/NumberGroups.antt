@@ -1,6 +1,6 @@
 -- The groups of a part, by set: which get their own vertex and how many get a new one.
 use Rattle.std.proofs.Common.{◌≡◌, ℕ, ◌+◌, ◌<◌, true, false, cond, ◌||◌, eqb, List, [], ◌∷◌, sym, refl, ap, ◌∙◌, ⊎_elim, arith}
-use Rattle.std.specs.List.{AllByRecursion as All}
+use Rattle.std.specs.List.{AllByRecursion}
 use Rattle.std.proofs.lemmas.Bool.{cases_Bool, cases_eq, eqb-true, eq-eqb, ne_eqb, cond-true, cond-false, cond_both, or_from}
 use Rattle.model.specs.Forest.{LigatureSet}
 use Rattle.model.specs.Cutting.{Entry}
@@ -69,7 +69,7 @@ module _ (ts : List LigatureSet) (h : ℕ → ℕ → ℕ) where
       let c = o.tells h in
       omega arith
 
-  pub groups_weigh : (p : List Entry) → Run p → All (Owned 0 ts) p → tally (by_owner h) (groups p) ≡ tally_sets (λ k t. cond (has k p) (h k t.vertex) 0) 0 ts
+  pub groups_weigh : (p : List Entry) → Run p → AllByRecursion (Owned 0 ts) p → tally (by_owner h) (groups p) ≡ tally_sets (λ k t. cond (has k p) (h k t.vertex) 0) 0 ts
   groups_weigh [] r o = sym (sets_none 0 ts)
   groups_weigh (e ∷ []) r o =
       let a = one_more e [] o.0 (λ k q. refl) in

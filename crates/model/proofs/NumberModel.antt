@@ -1,6 +1,6 @@
 -- Numbers of a whole model when one lookup takes the place of another: what a good model gives, and what more vertices keep.
 use Rattle.std.proofs.Common.{◌≡◌, ℕ, zero, suc, ◌+◌, ◌<◌, ◌≤◌, List, ◌∷◌, map, length, Some, Option, refl, ⊎_elim, arith}
-use Rattle.std.specs.List.{flat_map, AllByRecursion as All}
+use Rattle.std.specs.List.{flat_map, AllByRecursion}
 use Rattle.std.proofs.lemmas.List.{length-map}
 use Rattle.std.proofs.ByRecursion.{All-weaker, All-map}
 use Rattle.std.proofs.lemmas.Bool.{cases_lt}
@@ -22,26 +22,26 @@ module _ (meaning : List ℕ → Option Meant) (m : Model) (n : ℕ) (l : Lookup
   pub good_lookup : GoodLookup meaning l
   good_lookup = all-nth (GoodLookup meaning) m.lookups n l was g.lookups
 
-  pub good_sets : All SomeSets l.subtables
+  pub good_sets : AllByRecursion SomeSets l.subtables
   good_sets =
       All-weaker (GoodSubtable meaning) SomeSets (λ s h. All-weaker GoodSet SomeLigatures (λ t k. k.some) s.sets h.sets) l.subtables good_lookup.subtables
 
   abbrev Below : Placed → Type 0
   Below p = p.vertex < m.taken.vertices
 
-  below_sets : (s : Subtable) → All Below (subtable_walk s) → OldSets m.taken.vertices s
+  below_sets : (s : Subtable) → AllByRecursion Below (subtable_walk s) → OldSets m.taken.vertices s
   below_sets s h =
       let rest = all_back Below (extension_walk s.extension s.vertex) (subtable_table s ∷ coverage_table s ∷ flat_map (set_walk s.coverage) s.sets) h in
-      All-weaker (λ (t : LigatureSet). All Below (set_walk s.coverage t)) (λ (t : LigatureSet). t.vertex < m.taken.vertices) (λ t k. k.0) s.sets
+      All-weaker (λ (t : LigatureSet). AllByRecursion Below (set_walk s.coverage t)) (λ (t : LigatureSet). t.vertex < m.taken.vertices) (λ t k. k.0) s.sets
       (joined_all Below (set_walk s.coverage) s.sets rest.1.1)
 
-  pub old_sets : All (OldSets m.taken.vertices) l.subtables
+  pub old_sets : AllByRecursion (OldSets m.taken.vertices) l.subtables
   old_sets =
-      let walks = all-nth (λ (x : Lookup). All Below (lookup_walk x)) m.lookups n l was (joined_all Below lookup_walk m.lookups g.below) in
-      All-weaker (λ (s : Subtable). All Below (subtable_walk s)) (OldSets m.taken.vertices) below_sets l.subtables (joined_all Below subtable_walk l.subtables walks.1)
+      let walks = all-nth (λ (x : Lookup). AllByRecursion Below (lookup_walk x)) m.lookups n l was (joined_all Below lookup_walk m.lookups g.below) in
+      All-weaker (λ (s : Subtable). AllByRecursion Below (subtable_walk s)) (OldSets m.taken.vertices) below_sets l.subtables (joined_all Below subtable_walk l.subtables walks.1)
 
 -- the coverages of a good lookup are short, under a lawful codec
-pub good_short : (admits : List ℕ → Type 0) (meaning : List ℕ → Option Meant) (span : List ℕ → ℕ) → Lawful admits meaning span → (ss : List Subtable) → All (GoodSubtable meaning) ss → All Short ss
+pub good_short : (admits : List ℕ → Type 0) (meaning : List ℕ → Option Meant) (span : List ℕ → ℕ) → Lawful admits meaning span → (ss : List Subtable) → AllByRecursion (GoodSubtable meaning) ss → AllByRecursion Short ss
 good_short admits meaning span law ss h =
     All-weaker (GoodSubtable meaning) Short
     (λ s k.
@@ -56,7 +56,7 @@ up_counts v k zero = refl
 up_counts v k (suc n) = let a = up_counts v (suc k) n in omega arith
 
 -- some tables more, with the next free numbers
-module _ (before after : List Placed) (first more : ℕ) (d : Distinct (map vertex_of before)) (b : All (λ (p : Placed). p.vertex < first) before)
+module _ (before after : List Placed) (first more : ℕ) (d : Distinct (map vertex_of before)) (b : AllByRecursion (λ (p : Placed). p.vertex < first) before)
     (grown : (w : ℕ → ℕ) → tally (λ (p : Placed). w p.vertex) after ≡ tally (λ (p : Placed). w p.vertex) before + tally_up w first more) where
   pub grown_length : length after ≡ length before + more
   grown_length =
@@ -94,7 +94,7 @@ module _ (before after : List Placed) (first more : ℕ) (d : Distinct (map vert
       omega arith)
       (cases_lt v first))
 
-  pub grown_below : All (λ (p : Placed). p.vertex < first + more) after
+  pub grown_below : AllByRecursion (λ (p : Placed). p.vertex < first + more) after
   grown_below =
       all_mapped (λ x. x < first + more) vertex_of after
       (counts_below (first + more) (map vertex_of after)

@@ -1,7 +1,7 @@
 -- The numbers of new vertices in the order of the numbering rule; families of subtables.
 use Rattle.std.proofs.Common.{◌≡◌, ℕ, suc, ◌+◌, ◌*◌, ◌<◌, ◌≤◌, Bool, true, false, cond, eqb, leb, List, [], ◌∷◌, ◌++◌, map, length, drop, filter, sym, refl, ap, ◌∙◌, subst, ⊎_elim, arith}
 use Rattle.std.specs.Option.{option_to_list}
-use Rattle.std.specs.List.{flat_map, AllByRecursion as All}
+use Rattle.std.specs.List.{flat_map, AllByRecursion}
 use Rattle.std.proofs.lemmas.List.{append-nil, take_at, drop_at}
 use Rattle.std.proofs.ByRecursion.{All-append}
 use Rattle.std.proofs.lemmas.Bool.{cases_Bool, le-leb, lt-leb, cond-true, cond-false, cond_both}
@@ -20,27 +20,27 @@ use Rattle.model.proofs.KeepSizes.{length-pieces, length_extended}
 
 -- OLD VERTICES are below the first free one
 abbrev pub OldSets : ℕ → Subtable → Type 0
-OldSets first s = All (λ (t : LigatureSet). t.vertex < first) s.sets
+OldSets first s = AllByRecursion (λ (t : LigatureSet). t.vertex < first) s.sets
 
 abbrev pub OldPart : ℕ → List Entry → Type 0
-OldPart first p = All (λ (e : Entry). e.owner < first) p
+OldPart first p = AllByRecursion (λ (e : Entry). e.owner < first) p
 
 abbrev pub OldGroups : ℕ → List Group → Type 0
-OldGroups first us = All (λ (u : Group). u.owner < first) us
+OldGroups first us = AllByRecursion (λ (u : Group). u.owner < first) us
 
 old_set : (first i j : ℕ) (t : LigatureSet) (gs : List Ligature) → t.vertex < first → OldPart first (entries_from i j t gs)
 old_set first i j t [] h = tt
 old_set first i j t (g ∷ gs) h = (h, old_set first i (suc j) t gs h)
 
-old_entries : (first i : ℕ) (ts : List LigatureSet) → All (λ (t : LigatureSet). t.vertex < first) ts → OldPart first (sets_from i ts)
+old_entries : (first i : ℕ) (ts : List LigatureSet) → AllByRecursion (λ (t : LigatureSet). t.vertex < first) ts → OldPart first (sets_from i ts)
 old_entries first i [] h = tt
 old_entries first i (t ∷ ts) h = All-append (λ (e : Entry). e.owner < first) (entries_from i 0 t t.ligatures) (sets_from (suc i) ts) (old_set first i 0 t t.ligatures h.0) (old_entries first (suc i) ts h.1)
 
-old_all : (first : ℕ) (ps : List (List Entry)) → OldPart first (flat_map itself ps) → All (OldPart first) ps
+old_all : (first : ℕ) (ps : List (List Entry)) → OldPart first (flat_map itself ps) → AllByRecursion (OldPart first) ps
 old_all first [] h = tt
 old_all first (p ∷ ps) h = (all_front (λ (e : Entry). e.owner < first) p (flat_map itself ps) h, old_all first ps (all_back (λ (e : Entry). e.owner < first) p (flat_map itself ps) h))
 
-pub old_parts : (first : ℕ) (s : Subtable) (kept : List Entry) (later : List (List Entry)) → OldSets first s → kept ++ flat_map itself later ≡ entries s → All (OldPart first) later
+pub old_parts : (first : ℕ) (s : Subtable) (kept : List Entry) (later : List (List Entry)) → OldSets first s → kept ++ flat_map itself later ≡ entries s → AllByRecursion (OldPart first) later
 old_parts first s kept later h e =
     old_all first later (all_back (λ (e : Entry). e.owner < first) kept (flat_map itself later) (subst (OldPart first) (sym e) (old_entries first 0 s.sets h)))
 
@@ -117,7 +117,7 @@ new_length own fresh (t ∷ us) =
 
 -- PIECES
 module _ (first : ℕ) (wrote : ℕ → List ℕ) (kept : List Entry) where
-  pieces_in_order : (fresh : ℕ) (ps : List (List Entry)) → first ≤ fresh → All (OldPart first) ps
+  pieces_in_order : (fresh : ℕ) (ps : List (List Entry)) → first ≤ fresh → AllByRecursion (OldPart first) ps
       → flat_map (piece_vertices first) (pieces wrote kept fresh ps) ≡ up_from fresh (2 * length ps + new_count kept ps)
   pieces_in_order fresh [] l h = refl
   pieces_in_order fresh (p ∷ later) l h =
@@ -155,7 +155,7 @@ behind_them wrapped fresh ss = cond wrapped (extended fresh ss) ss
 abbrev pub vertices_in : ℕ → List Subtable → List ℕ
 vertices_in first ss = flat_map (piece_vertices first) ss ++ flat_map (λ (s : Subtable). option_to_list s.extension) ss
 
-divided_in_order : (wrapped : Bool) (first : ℕ) (wrote : ℕ → List ℕ) (kept : List Entry) (fresh : ℕ) (ps : List (List Entry)) → first ≤ fresh → All (OldPart first) ps
+divided_in_order : (wrapped : Bool) (first : ℕ) (wrote : ℕ → List ℕ) (kept : List Entry) (fresh : ℕ) (ps : List (List Entry)) → first ≤ fresh → AllByRecursion (OldPart first) ps
     → vertices_in first (behind_them wrapped (after_pieces kept fresh ps) (pieces wrote kept fresh ps)) ≡ up_from fresh (2 * length ps + new_count kept ps + cond wrapped (length ps) 0)
 divided_in_order true first wrote kept fresh ps l h =
     let n = 2 * length ps + new_count kept ps in
@@ -207,7 +207,7 @@ module _ (ceiling : ℕ) (wrapped : Bool) (wrote : ℕ → List ℕ) where
   made_whole fresh (s ∷ ss) = ap (λ q. divided wrapped wrote fresh s (parts ceiling (entries s)) ++ q) (made_whole (after_divided wrapped fresh (parts ceiling (entries s))) ss)
 
   -- the pieces of one family
-  pieces_made : (first fresh : ℕ) (s : Subtable) (kept : List Entry) (later : List (List Entry)) → first ≤ fresh → All (OldPart first) later
+  pieces_made : (first fresh : ℕ) (s : Subtable) (kept : List Entry) (later : List (List Entry)) → first ≤ fresh → AllByRecursion (OldPart first) later
       → vertices_in first (drop 1 (divided wrapped wrote fresh s (kept ∷ later))) ≡ up_from fresh (2 * length later + new_count kept later + cond wrapped (length later) 0)
   pieces_made first fresh s kept [] l h = ap (up_from fresh) (nothing wrapped)
     where
@@ -224,7 +224,7 @@ module _ (ceiling : ℕ) (wrapped : Bool) (wrote : ℕ → List ℕ) where
       (pieces_made first fresh s d.kept d.later l (old_parts first s d.kept d.later o d.so.whole)
       ∙ ap (up_from fresh) (sym (numbered wrapped s h d.kept d.later d.so)))
 
-  pub all_in_order : (first fresh : ℕ) (ss : List Subtable) → first ≤ fresh → All SomeSets ss → All (OldSets first) ss
+  pub all_in_order : (first fresh : ℕ) (ss : List Subtable) → first ≤ fresh → AllByRecursion SomeSets ss → AllByRecursion (OldSets first) ss
       → flat_map (family_vertices first) (made ceiling wrapped wrote fresh ss) ≡ up_from fresh (tally (cut_vertices wrapped) (flat_map (cuts ceiling) ss))
   all_in_order first fresh [] l h o = refl
   all_in_order first fresh (s ∷ ss) l h o =

@@ -1,6 +1,6 @@
 -- Own and new vertices over all parts of a subtable: each set keeps its own vertex once, and as many sets are new as cuts fall inside a set.
 use Rattle.std.proofs.Common.{◌≡◌, ℕ, suc, ◌+◌, ◌*◌, Bool, true, false, cond, not, ◌&&◌, ◌||◌, List, [], ◌∷◌, ◌++◌, map, length, sym, refl, ap, ◌∙◌, subst, ⊎_elim, arith}
-use Rattle.std.specs.List.{flat_map, AllByRecursion as All}
+use Rattle.std.specs.List.{flat_map, AllByRecursion}
 use Rattle.std.proofs.lemmas.List.{map-append}
 use Rattle.std.proofs.lemmas.Bool.{cases_Bool, cond-true, cond-false, cond_both}
 use Rattle.model.specs.Forest.{Ligature, LigatureSet}
@@ -14,9 +14,9 @@ use Rattle.model.proofs.NumberGroups.{groups_weigh, within, within_not, groups_c
 -- a part of the entries of these sets
 pub record Proper (ts : List LigatureSet) (p : List Entry) : Type 0 where
   pub run : Run p
-  pub owned : All (Owned 0 ts) p
+  pub owned : AllByRecursion (Owned 0 ts) p
 
-pub all_proper : (ts : List LigatureSet) (ps : List (List Entry)) → Run (flat_map itself ps) → All (Owned 0 ts) (flat_map itself ps) → All (Proper ts) ps
+pub all_proper : (ts : List LigatureSet) (ps : List (List Entry)) → Run (flat_map itself ps) → AllByRecursion (Owned 0 ts) (flat_map itself ps) → AllByRecursion (Proper ts) ps
 all_proper ts [] r o = tt
 all_proper ts (p ∷ ps) r o =
     (record { run = run_front p (flat_map itself ps) r; owned = all_front (Owned 0 ts) p (flat_map itself ps) o }, all_proper ts ps (run_back p (flat_map itself ps) r) (all_back (Owned 0 ts) p (flat_map itself ps) o))
@@ -24,14 +24,14 @@ all_proper ts (p ∷ ps) r o =
 -- the first part and the others of the entries of these sets
 pub record Cut-up (ts : List LigatureSet) (kept : List Entry) (later : List (List Entry)) : Type 0 where
   pub first : Proper ts kept
-  pub others : All (Proper ts) later
-  pub some : All SomeEntries later
+  pub others : AllByRecursion (Proper ts) later
+  pub some : AllByRecursion SomeEntries later
   pub whole : kept ++ flat_map itself later ≡ sets_from 0 ts
 
-pub cut_up : (ts : List LigatureSet) (kept : List Entry) (later : List (List Entry)) → All SomeEntries later → kept ++ flat_map itself later ≡ sets_from 0 ts → Cut-up ts kept later
+pub cut_up : (ts : List LigatureSet) (kept : List Entry) (later : List (List Entry)) → AllByRecursion SomeEntries later → kept ++ flat_map itself later ≡ sets_from 0 ts → Cut-up ts kept later
 cut_up ts kept later s e =
     let r : Run (kept ++ flat_map itself later) = subst Run (sym e) (sets_run 0 ts) in
-    let o : All (Owned 0 ts) (kept ++ flat_map itself later) = subst (All (Owned 0 ts)) (sym e) (sets_owned 0 ts) in
+    let o : AllByRecursion (Owned 0 ts) (kept ++ flat_map itself later) = subst (AllByRecursion (Owned 0 ts)) (sym e) (sets_owned 0 ts) in
     record {
       first = record { run = run_front kept (flat_map itself later) r; owned = all_front (Owned 0 ts) kept (flat_map itself later) o };
       others = all_proper ts later (run_back kept (flat_map itself later) r) (all_back (Owned 0 ts) kept (flat_map itself later) o);
@@ -74,7 +74,7 @@ module _ (ts : List LigatureSet) (w : ℕ → ℕ) (kept : List Entry) where
   both_zero true = refl
   both_zero false = refl
 
-  pub own_goes : (ps : List (List Entry)) → All (Proper ts) ps → own_pieces w kept ps ≡ tally_sets (λ k t. cond (has k kept) 0 (cond (any_has k ps) (w t.vertex) 0)) 0 ts
+  pub own_goes : (ps : List (List Entry)) → AllByRecursion (Proper ts) ps → own_pieces w kept ps ≡ tally_sets (λ k t. cond (has k kept) 0 (cond (any_has k ps) (w t.vertex) 0)) 0 ts
   own_goes [] h = sym (all_zero (goes []) (λ k t. both_zero (has k kept)))
   own_goes (p ∷ later) h =
       let a = groups_weigh ts (λ k v. cond (comes_here kept later k) (w v) 0) p h.0.run h.0.owned in
@@ -85,7 +85,7 @@ module _ (ts : List LigatureSet) (w : ℕ → ℕ) (kept : List Entry) where
       omega arith
 
 -- over all parts each set's own vertex stands once
-pub own_once : (ts : List LigatureSet) (w : ℕ → ℕ) (kept : List Entry) (later : List (List Entry)) → All SomeLigatures ts → Cut-up ts kept later
+pub own_once : (ts : List LigatureSet) (w : ℕ → ℕ) (kept : List Entry) (later : List (List Entry)) → AllByRecursion SomeLigatures ts → Cut-up ts kept later
     → tally (λ (t : Group). w t.owner) (groups kept) + own_pieces w kept later ≡ tally (λ (t : LigatureSet). w t.vertex) ts
 own_once ts w kept later s c =
     let a : tally (λ (t : Group). w t.owner) (groups kept) ≡ tally_sets (λ k t. cond (has k kept) (w t.vertex) 0) 0 ts = groups_weigh ts (λ k v. w v) kept c.first.run c.first.owned in
@@ -128,7 +128,7 @@ new_and_own kept (p ∷ later) =
     let b = new_or_own (comes_here kept later) (groups p) in
     omega arith
 
-all-groups : (ts : List LigatureSet) (ps : List (List Entry)) → All (Proper ts) ps → tally (λ p. tally (λ (t : Group). 1) (groups p)) ps ≡ tally opening (flat_map itself ps) + tally within ps
+all-groups : (ts : List LigatureSet) (ps : List (List Entry)) → AllByRecursion (Proper ts) ps → tally (λ p. tally (λ (t : Group). 1) (groups p)) ps ≡ tally opening (flat_map itself ps) + tally within ps
 all-groups ts [] h = refl
 all-groups ts (p ∷ ps) h =
     let a = groups_count p h.0.run in
@@ -141,7 +141,7 @@ opens_within i [] ys h = refl
 opens_within i (x ∷ xs) ys h = within_not x xs h.1
 
 -- as many new sets as parts behind the first that begin inside a set
-pub new_within : (ts : List LigatureSet) (kept : List Entry) (later : List (List Entry)) → All SomeLigatures ts → Cut-up ts kept later → new_count kept later ≡ tally within later
+pub new_within : (ts : List LigatureSet) (kept : List Entry) (later : List (List Entry)) → AllByRecursion SomeLigatures ts → Cut-up ts kept later → new_count kept later ≡ tally within later
 new_within ts kept later s c =
     let a = new_and_own kept later in
     let b = all-groups ts later c.others in

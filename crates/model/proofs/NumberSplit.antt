@@ -1,6 +1,6 @@
 -- An accepted split: its new vertices, its bill, and what it keeps of the model's numbers.
 use Rattle.std.proofs.Common.{◌≡◌, ℕ, ◌+◌, ◌≤◌, List, [], ◌∷◌, ◌++◌, set, Some, sum_by, Option, sym, refl, ap, ◌∙◌, subst, arith}
-use Rattle.std.specs.List.{flat_map, AllByRecursion as All}
+use Rattle.std.specs.List.{flat_map, AllByRecursion}
 use Rattle.std.proofs.ByRecursion.{All-set}
 use Rattle.coverage.specs.Meaning.{Meant}
 use Rattle.model.specs.Forest.{Lookup, Model}
@@ -33,10 +33,10 @@ splits_to P m n ceiling l after c s h =
 
 -- ALL OF IT, of the model and the lookup by name
 module _ (meaning : List ℕ → Option Meant) (wrote : ℕ → List ℕ) (m : Model) (n ceiling : ℕ) (l : Lookup) (was : nth m.lookups n ≡ Some l) (g : Good meaning m) where
-  some : All SomeSets l.subtables
+  some : AllByRecursion SomeSets l.subtables
   some = good_sets meaning m n l was g
 
-  old : All (OldSets m.taken.vertices) l.subtables
+  old : AllByRecursion (OldSets m.taken.vertices) l.subtables
   old = old_sets meaning m n l was g
 
   found : families ceiling l.subtables (split_all ceiling (is_wrapped l) wrote m.taken.vertices l.subtables) ≡ made ceiling (is_wrapped l) wrote m.taken.vertices l.subtables
@@ -106,7 +106,7 @@ module _ (meaning : List ℕ → Option Meant) (wrote : ℕ → List ℕ) (m : M
       = ap (sum_by (family_bytes m.taken.vertices (is_wrapped l))) found ∙ tally_sum (family_bytes m.taken.vertices (is_wrapped l)) (made ceiling (is_wrapped l) wrote m.taken.vertices l.subtables) in
       omega arith
 
-  new_lie : All Short (split_all ceiling (is_wrapped l) wrote m.taken.vertices l.subtables)
+  new_lie : AllByRecursion Short (split_all ceiling (is_wrapped l) wrote m.taken.vertices l.subtables)
       → Lie (taken_tables m.taken.vertices ceiling l (split_lookup ceiling wrote m.taken.vertices l)) (taken_parts ceiling m.taken.vertices l)
   new_lie h =
       subst (λ (fs : List Family). Lie (flat_map (λ (f : Family). divided_tables m.taken.vertices f.after) fs ++ lookup_tables (split_lookup ceiling wrote m.taken.vertices l) (all_cuts ceiling l)) (taken_parts ceiling m.taken.vertices l)) (sym found)
@@ -144,7 +144,7 @@ module _ (meaning : List ℕ → Option Meant) (wrote : ℕ → List ℕ) (m : M
         links = omega arith;
       }
 
-  new_room : All Short (split_all ceiling (is_wrapped l) wrote m.taken.vertices l.subtables) → Roomy (split_to wrote m n ceiling l).model
+  new_room : AllByRecursion Short (split_all ceiling (is_wrapped l) wrote m.taken.vertices l.subtables) → Roomy (split_to wrote m n ceiling l).model
   new_room h =
       let a = walk_in_place bytes_of m.lookups n l (split_lookup ceiling wrote m.taken.vertices l) was in
       let b = lookup_bytes_lem l in
@@ -176,9 +176,9 @@ pub keeps_vertices_distinct : KeepsVerticesDistinct
 keeps_vertices_distinct meaning m n ceiling l after c g s = splits_to (λ x y. Kept m n ceiling l x y) m n ceiling l after c s (new_kept meaning s.wrote m n ceiling l s.was g)
 
 -- the other lookups stay
-pub others_stay : (P : Lookup → Type 0) (m : Model) (n ceiling : ℕ) (l after : Lookup) (c : Changed) → Splits m n ceiling l after c → P after → All P m.lookups → All P c.model.lookups
+pub others_stay : (P : Lookup → Type 0) (m : Model) (n ceiling : ℕ) (l after : Lookup) (c : Changed) → Splits m n ceiling l after c → P after → AllByRecursion P m.lookups → AllByRecursion P c.model.lookups
 others_stay P m n ceiling l after c s =
-    splits_to (λ x y. P x → All P m.lookups → All P y.model.lookups) m n ceiling l after c s (λ h k. All-set P m.lookups n (split_lookup ceiling s.wrote m.taken.vertices l) h k)
+    splits_to (λ x y. P x → AllByRecursion P m.lookups → AllByRecursion P y.model.lookups) m n ceiling l after c s (λ h k. All-set P m.lookups n (split_lookup ceiling s.wrote m.taken.vertices l) h k)
 
 -- a good model is good afterwards if the divided lookup is
 pub split_keeps_good : (admits : List ℕ → Type 0) (meaning : List ℕ → Option Meant) (span : List ℕ → ℕ) → Lawful admits meaning span

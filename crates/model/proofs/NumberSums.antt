@@ -1,6 +1,6 @@
 -- Sums over lists and over runs of numbers, and how often a number stands in a list.
 use Rattle.std.proofs.Common.{◌≡◌, ℕ, zero, suc, ◌+◌, ◌<◌, ◌≤◌, cond, eqb, List, [], ◌∷◌, ◌++◌, map, length, sum_by, refl, ap, ◌∙◌, ⊎_elim, arith}
-use Rattle.std.specs.List.{flat_map, AllByRecursion as All}
+use Rattle.std.specs.List.{flat_map, AllByRecursion}
 use Rattle.std.proofs.lemmas.List.Sums.{sum_by-cons}
 use Rattle.std.proofs.lemmas.Bool.{cases_Bool, cases_eq, cases_lt, eq-eqb, ne_eqb, cond-true, cond-false}
 use Rattle.model.specs.Tables.{count_of}
@@ -101,7 +101,7 @@ count_tally v [] = refl
 count_tally v (t ∷ ts) = let e = count_tally v ts in omega arith
 
 -- below a bound: what is not, is counted nowhere
-pub below_counts : (n : ℕ) (xs : List ℕ) → All (λ x. x < n) xs → (v : ℕ) → n ≤ v → count_of v xs ≡ 0
+pub below_counts : (n : ℕ) (xs : List ℕ) → AllByRecursion (λ x. x < n) xs → (v : ℕ) → n ≤ v → count_of v xs ≡ 0
 below_counts n [] h v l = refl
 below_counts n (x ∷ xs) h v l =
     let a : x < n = h.0 in
@@ -109,7 +109,7 @@ below_counts n (x ∷ xs) h v l =
     let k = below_counts n xs h.1 v l in
     omega arith
 
-pub counts_below : (n : ℕ) (xs : List ℕ) → ((v : ℕ) → n ≤ v → count_of v xs ≡ 0) → All (λ x. x < n) xs
+pub counts_below : (n : ℕ) (xs : List ℕ) → ((v : ℕ) → n ≤ v → count_of v xs ≡ 0) → AllByRecursion (λ x. x < n) xs
 counts_below n [] h = tt
 counts_below n (x ∷ xs) h = (
   ⊎_elim

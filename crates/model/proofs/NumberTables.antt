@@ -1,6 +1,6 @@
 -- The new and rewritten tables of a split lie in their parts of the pool; new sets are counted by cuts; ligatures stay.
 use Rattle.std.proofs.Common.{◌≡◌, ℕ, suc, ◌+◌, ◌*◌, ◌≤◌, Bool, true, false, cond, List, [], ◌∷◌, ◌++◌, map, length, drop, None, sum_by, filter, sym, refl, ap, ◌∙◌, subst, ⊎_elim, arith, length-append}
-use Rattle.std.specs.List.{flat_map, AllByRecursion as All}
+use Rattle.std.specs.List.{flat_map, AllByRecursion}
 use Rattle.std.proofs.lemmas.List.{append-nil, map-append}
 use Rattle.std.proofs.lemmas.Bool.{cases_Bool, cond-true, cond-false}
 use Rattle.model.specs.Forest.{Ligature, LigatureSet, Subtable, Lookup}
@@ -46,7 +46,7 @@ sets_lie c own fresh (t ∷ us) =
     (cases_Bool (own t.set))
 
 module _ (first : ℕ) (wrote : ℕ → List ℕ) (ts : List LigatureSet) (kept : List Entry) where
-  pieces_lie : (fresh : ℕ) (ps : List (List Entry)) → first ≤ fresh → All (OldPart first) ps → All (Proper ts) ps → All Short (pieces wrote kept fresh ps)
+  pieces_lie : (fresh : ℕ) (ps : List (List Entry)) → first ≤ fresh → AllByRecursion (OldPart first) ps → AllByRecursion (Proper ts) ps → AllByRecursion Short (pieces wrote kept fresh ps)
       → Lie (flat_map (piece_tables first) (pieces wrote kept fresh ps)) (piece_parts (length ts) kept fresh ps)
   pieces_lie fresh [] l o u h = tt
   pieces_lie fresh (p ∷ later) l o u h =
@@ -83,7 +83,7 @@ module _ (first : ℕ) (wrote : ℕ → List ℕ) (fresh : ℕ) (s : Subtable) w
   kept_lies : (kept : List Entry) → length (wrote s.coverage) ≤ 4 + 6 * length (sets_of (λ i. true) 0 (groups kept)) → length (wrote s.coverage) ≤ coverage_room (length (groups kept))
   kept_lies kept h = let a = length_sets_of (λ i. true) 0 (groups kept) in omega arith
 
-  parted_lie : (wrapped : Bool) (kept p : List Entry) (ps : List (List Entry)) → first ≤ fresh → All (OldPart first) (p ∷ ps) → Cut-up s.sets kept (p ∷ ps) → All Short (divided wrapped wrote fresh s (kept ∷ p ∷ ps))
+  parted_lie : (wrapped : Bool) (kept p : List Entry) (ps : List (List Entry)) → first ≤ fresh → AllByRecursion (OldPart first) (p ∷ ps) → Cut-up s.sets kept (p ∷ ps) → AllByRecursion Short (divided wrapped wrote fresh s (kept ∷ p ∷ ps))
       → Lie (divided_tables first (divided wrapped wrote fresh s (kept ∷ p ∷ ps))) (divided_parts wrapped fresh s (kept ∷ p ∷ ps))
   parted_lie true kept p ps l o u h =
       let next = after_pieces kept fresh (p ∷ ps) in
@@ -101,20 +101,20 @@ module _ (first : ℕ) (wrote : ℕ → List ℕ) (fresh : ℕ) (s : Subtable) w
       (pieces_lie first wrote s.sets kept fresh (p ∷ ps) l o u.others h.1)
       ((refl, kept_lies kept h.0), none)
 
-  divided_lie : (wrapped : Bool) (kept : List Entry) (later : List (List Entry)) → first ≤ fresh → All (OldPart first) later → Cut-up s.sets kept later → All Short (divided wrapped wrote fresh s (kept ∷ later))
+  divided_lie : (wrapped : Bool) (kept : List Entry) (later : List (List Entry)) → first ≤ fresh → AllByRecursion (OldPart first) later → Cut-up s.sets kept later → AllByRecursion Short (divided wrapped wrote fresh s (kept ∷ later))
       → Lie (divided_tables first (divided wrapped wrote fresh s (kept ∷ later))) (divided_parts wrapped fresh s (kept ∷ later))
   divided_lie wrapped kept [] l o u h = tt
   divided_lie wrapped kept (p ∷ ps) l o u h = parted_lie wrapped kept p ps l o u h
 
-  one_lies : (ceiling : ℕ) (wrapped : Bool) → first ≤ fresh → OldSets first s → All Short (divided wrapped wrote fresh s (parts ceiling (entries s)))
+  one_lies : (ceiling : ℕ) (wrapped : Bool) → first ≤ fresh → OldSets first s → AllByRecursion Short (divided wrapped wrote fresh s (parts ceiling (entries s)))
       → Lie (divided_tables first (divided wrapped wrote fresh s (parts ceiling (entries s)))) (divided_parts wrapped fresh s (parts ceiling (entries s)))
   one_lies ceiling wrapped l o =
       let d = parts_cut_up ceiling s in
-      subst (λ (ps : List (List Entry)). All Short (divided wrapped wrote fresh s ps) → Lie (divided_tables first (divided wrapped wrote fresh s ps)) (divided_parts wrapped fresh s ps)) (sym d.are)
+      subst (λ (ps : List (List Entry)). AllByRecursion Short (divided wrapped wrote fresh s ps) → Lie (divided_tables first (divided wrapped wrote fresh s ps)) (divided_parts wrapped fresh s ps)) (sym d.are)
       (divided_lie wrapped d.kept d.later l (old_parts first s d.kept d.later o d.so.whole) d.so)
 
 module _ (ceiling : ℕ) (wrapped : Bool) (wrote : ℕ → List ℕ) where
-  all_lie : (first fresh : ℕ) (ss : List Subtable) → first ≤ fresh → All SomeSets ss → All (OldSets first) ss → All Short (split_all ceiling wrapped wrote fresh ss)
+  all_lie : (first fresh : ℕ) (ss : List Subtable) → first ≤ fresh → AllByRecursion SomeSets ss → AllByRecursion (OldSets first) ss → AllByRecursion Short (split_all ceiling wrapped wrote fresh ss)
       → Lie (flat_map (λ (f : Family). divided_tables first f.after) (made ceiling wrapped wrote fresh ss)) (all_parts ceiling wrapped fresh ss)
   all_lie first fresh [] l h o k = tt
   all_lie first fresh (s ∷ ss) l h o k =
@@ -144,7 +144,7 @@ lookup_lies ceiling wrote fresh l (c ∷ cs) =
     let b = split-length ceiling (is_wrapped l) wrote fresh l.subtables in
     ((refl, omega arith), tt)
 
-pub tables_lie : (ceiling : ℕ) (wrote : ℕ → List ℕ) (fresh : ℕ) (l : Lookup) → All SomeSets l.subtables → All (OldSets fresh) l.subtables → All Short (split_lookup ceiling wrote fresh l).subtables
+pub tables_lie : (ceiling : ℕ) (wrote : ℕ → List ℕ) (fresh : ℕ) (l : Lookup) → AllByRecursion SomeSets l.subtables → AllByRecursion (OldSets fresh) l.subtables → AllByRecursion Short (split_lookup ceiling wrote fresh l).subtables
     → Lie (flat_map (λ (f : Family). divided_tables fresh f.after) (made ceiling (is_wrapped l) wrote fresh l.subtables) ++ lookup_tables (split_lookup ceiling wrote fresh l) (all_cuts ceiling l)) (taken_parts ceiling fresh l)
 tables_lie ceiling wrote fresh l h o k =
     lie_append (flat_map (λ (f : Family). divided_tables fresh f.after) (made ceiling (is_wrapped l) wrote fresh l.subtables)) (lookup_tables (split_lookup ceiling wrote fresh l) (all_cuts ceiling l))
@@ -155,7 +155,7 @@ tables_lie ceiling wrote fresh l h o k =
 abbrev pub new_in : ℕ → Subtable → ℕ
 new_in first s = length (new_sets_of first s)
 
-pieces_new : (first : ℕ) (wrote : ℕ → List ℕ) (kept : List Entry) (fresh : ℕ) (ps : List (List Entry)) → first ≤ fresh → All (OldPart first) ps → tally (new_in first) (pieces wrote kept fresh ps) ≡ new_count kept ps
+pieces_new : (first : ℕ) (wrote : ℕ → List ℕ) (kept : List Entry) (fresh : ℕ) (ps : List (List Entry)) → first ≤ fresh → AllByRecursion (OldPart first) ps → tally (new_in first) (pieces wrote kept fresh ps) ≡ new_count kept ps
 pieces_new first wrote kept fresh [] l h = refl
 pieces_new first wrote kept fresh (p ∷ later) l h =
     let own = comes_here kept later in
@@ -165,7 +165,7 @@ pieces_new first wrote kept fresh (p ∷ later) l h =
     = ap length (new_sets_lem first own (fresh + 2) (groups p) (omega arith) (old_groups first p h.0)) ∙ new_length own (fresh + 2) (groups p) in
     omega arith
 
-divided_new : (first : ℕ) (wrapped : Bool) (wrote : ℕ → List ℕ) (fresh : ℕ) (s : Subtable) (kept : List Entry) (later : List (List Entry)) → first ≤ fresh → All (OldPart first) later
+divided_new : (first : ℕ) (wrapped : Bool) (wrote : ℕ → List ℕ) (fresh : ℕ) (s : Subtable) (kept : List Entry) (later : List (List Entry)) → first ≤ fresh → AllByRecursion (OldPart first) later
     → tally (new_in first) (drop 1 (divided wrapped wrote fresh s (kept ∷ later))) ≡ new_count kept later
 divided_new first wrapped wrote fresh s kept [] l h = refl
 divided_new first true wrote fresh s kept (p ∷ ps) l h =
@@ -181,7 +181,7 @@ module _ (ceiling : ℕ) (wrapped : Bool) (wrote : ℕ → List ℕ) where
       (divided_new first wrapped wrote fresh s d.kept d.later l (old_parts first s d.kept d.later o d.so.whole)
       ∙ new_sets_are_inside wrapped s h d.kept d.later d.so)
 
-  pub all_new : (first fresh : ℕ) (ss : List Subtable) → first ≤ fresh → All SomeSets ss → All (OldSets first) ss
+  pub all_new : (first fresh : ℕ) (ss : List Subtable) → first ≤ fresh → AllByRecursion SomeSets ss → AllByRecursion (OldSets first) ss
       → tally (λ (f : Family). sum_by (new_in first) (pieces_of f)) (made ceiling wrapped wrote fresh ss) ≡ tally inside (flat_map (cuts ceiling) ss)
   all_new first fresh [] l h o = refl
   all_new first fresh (s ∷ ss) l h o =

@@ -1,6 +1,6 @@
 -- What the new tables of a split count for: vertices and links, cut by cut; the numbers in order.
 use Rattle.std.proofs.Common.{◌≡◌, ℕ, zero, suc, ◌+◌, ◌*◌, Bool, true, false, cond, List, [], ◌∷◌, ◌++◌, length, sym, refl, ap, ◌∙◌, subst, arith}
-use Rattle.std.specs.List.{flat_map, AllByRecursion as All}
+use Rattle.std.specs.List.{flat_map, AllByRecursion}
 use Rattle.model.specs.Forest.{Subtable}
 use Rattle.model.specs.Cutting.{Entry, entries, parts, Cut, cuts_of, cuts_before, cuts}
 use Rattle.model.specs.Splitting.{groups, comes_here, new_sets, after_pieces, after_divided, split_all, inside, cut_vertices, cut_links}
@@ -95,7 +95,7 @@ module _ (w : ℕ → ℕ) (wrote : ℕ → List ℕ) where
       (sym d.are)
       (extensions_number wrapped d.kept fresh d.later ∙ ap (tally_up w fresh) (sym (numbered wrapped s h d.kept d.later d.so)), after_one wrapped s h d.kept d.later d.so fresh)
 
-  pub all_number : (ceiling : ℕ) (wrapped : Bool) (fresh : ℕ) (ss : List Subtable) → All SomeSets ss
+  pub all_number : (ceiling : ℕ) (wrapped : Bool) (fresh : ℕ) (ss : List Subtable) → AllByRecursion SomeSets ss
       → added_all (vertex_weights w) ceiling wrapped wrote fresh ss ≡ tally_up w fresh (tally (cut_vertices wrapped) (flat_map (cuts ceiling) ss))
   all_number ceiling wrapped fresh [] h = refl
   all_number ceiling wrapped fresh (s ∷ ss) h =
@@ -144,7 +144,7 @@ module _ (wrote : ℕ → List ℕ) where
       subst (λ (ps : List (List Entry)). added_divided link_weights wrapped wrote fresh ps ≡ tally (cut_links wrapped) (cuts_before ps)) (sym d.are)
       (extensions_link wrapped d.kept fresh d.later ∙ sym (linked wrapped s h d.kept d.later d.so))
 
-  pub all_link : (ceiling : ℕ) (wrapped : Bool) (fresh : ℕ) (ss : List Subtable) → All SomeSets ss
+  pub all_link : (ceiling : ℕ) (wrapped : Bool) (fresh : ℕ) (ss : List Subtable) → AllByRecursion SomeSets ss
       → added_all link_weights ceiling wrapped wrote fresh ss ≡ tally (cut_links wrapped) (flat_map (cuts ceiling) ss)
   all_link ceiling wrapped fresh [] h = refl
   all_link ceiling wrapped fresh (s ∷ ss) h =
@@ -165,7 +165,7 @@ module _ (k : Weights) (ceiling : ℕ) (wrote : ℕ → List ℕ) (same : (v : �
       tally_same (λ (s : Subtable). kept_coverage k wrote s (parts ceiling (entries s))) (λ (s : Subtable). k.coverage s.coverage s.covering) (λ s. kept_same s (parts ceiling (entries s))) ss
 
 -- ALL SUBTABLES OF A LOOKUP
-module _ (ceiling : ℕ) (wrapped : Bool) (wrote : ℕ → List ℕ) (fresh : ℕ) (ss : List Subtable) (h : All SomeSets ss) where
+module _ (ceiling : ℕ) (wrapped : Bool) (wrote : ℕ → List ℕ) (fresh : ℕ) (ss : List Subtable) (h : AllByRecursion SomeSets ss) where
   pub split_vertices : (w : ℕ → ℕ)
       → tally (of_subtable (vertex_weights w)) (split_all ceiling wrapped wrote fresh ss) ≡ tally (of_subtable (vertex_weights w)) ss + tally_up w fresh (tally (cut_vertices wrapped) (flat_map (cuts ceiling) ss))
   split_vertices w =

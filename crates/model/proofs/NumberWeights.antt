@@ -1,6 +1,6 @@
 -- What a split adds to a sum over the tables of a lookup, whatever each table counts for.
 use Rattle.std.proofs.Common.{◌≡◌, ℕ, suc, ◌+◌, Bool, true, false, cond, List, [], ◌∷◌, ◌++◌, map, length, is_some, Some, None, Option, sym, refl, ap, ◌∙◌, subst, arith}
-use Rattle.std.specs.List.{flat_map, AllByRecursion as All}
+use Rattle.std.specs.List.{flat_map, AllByRecursion}
 use Rattle.std.proofs.lemmas.List.{map-append}
 use Rattle.std.proofs.lemmas.Bool.{true≢false}
 use Rattle.model.specs.Forest.{Ligature, LigatureSet, Subtable}
@@ -25,14 +25,14 @@ ligature_of e = e.ligature
 
 -- each subtable has sets that have ligatures
 abbrev pub SomeSets : Subtable → Type 0
-SomeSets s = All SomeLigatures s.sets
+SomeSets s = AllByRecursion SomeLigatures s.sets
 
 pub ligatures_of_all : (kept : List Entry) (later : List (List Entry)) (ts : List LigatureSet) → kept ++ flat_map itself later ≡ sets_from 0 ts
     → map ligature_of kept ++ map ligature_of (flat_map itself later) ≡ ligatures_in ts
 ligatures_of_all kept later ts e = sym (map-append ligature_of kept (flat_map itself later)) ∙ ap (map ligature_of) e ∙ from_ligatures 0 ts
 
 -- pieces as they are numbered, still without extension tables
-all_bare : (wrote : ℕ → List ℕ) (kept : List Entry) (fresh : ℕ) (ps : List (List Entry)) → All (λ (s : Subtable). is_some s.extension ≡ false) (pieces wrote kept fresh ps)
+all_bare : (wrote : ℕ → List ℕ) (kept : List Entry) (fresh : ℕ) (ps : List (List Entry)) → AllByRecursion (λ (s : Subtable). is_some s.extension ≡ false) (pieces wrote kept fresh ps)
 all_bare wrote kept fresh [] = tt
 all_bare wrote kept fresh (p ∷ later) = (refl, all_bare wrote kept (fresh + 2 + new_sets (comes_here kept later) (groups p)) later)
 
@@ -80,7 +80,7 @@ module _ (k : Weights) where
   bare_weighs None e = refl
   bare_weighs (Some v) e = absurd (true≢false e)
 
-  pub extended_weigh : (fresh : ℕ) (ss : List Subtable) → All (λ (s : Subtable). is_some s.extension ≡ false) ss
+  pub extended_weigh : (fresh : ℕ) (ss : List Subtable) → AllByRecursion (λ (s : Subtable). is_some s.extension ≡ false) ss
       → tally of_subtable (extended fresh ss) ≡ tally of_subtable ss + tally_up k.extension fresh (length ss)
   extended_weigh fresh [] h = refl
   extended_weigh fresh (s ∷ ss) h =
@@ -159,7 +159,7 @@ module _ (k : Weights) (ceiling : ℕ) (wrapped : Bool) (wrote : ℕ → List �
       subst (λ (ps : List (List Entry)). tally (of_subtable k) (divided wrapped wrote fresh s ps) + k.coverage s.coverage s.covering ≡ of_subtable k s + (kept_coverage k wrote s ps + added_divided k wrapped wrote fresh ps))
       (sym d.are) (divided_weigh k wrapped wrote fresh s d.kept d.later h d.so)
 
-  pub split_weighs : (fresh : ℕ) (ss : List Subtable) → All SomeSets ss
+  pub split_weighs : (fresh : ℕ) (ss : List Subtable) → AllByRecursion SomeSets ss
       → tally (of_subtable k) (split_all ceiling wrapped wrote fresh ss) + coverages_before ss ≡ tally (of_subtable k) ss + (coverages_after ss + added_all fresh ss)
   split_weighs fresh [] h = refl
   split_weighs fresh (s ∷ ss) h =

@@ -1,6 +1,6 @@
 -- An accepted wrap: extension tables by link position, what they take, and that a good model stays good.
 use Rattle.std.proofs.Common.{◌≡◌, ℕ, suc, ◌+◌, ◌*◌, ◌≤◌, Bool, true, false, cond, eqb, List, [], ◌∷◌, map, length, set, is_some, Some, sum_by, Option, sym, refl, ap, ◌∙◌, subst, arith}
-use Rattle.std.specs.List.{flat_map, AllByRecursion as All}
+use Rattle.std.specs.List.{flat_map, AllByRecursion}
 use Rattle.std.proofs.ByRecursion.{All-set}
 use Rattle.std.proofs.lemmas.Bool.{true≢false}
 use Rattle.coverage.specs.Meaning.{Meant}
@@ -41,9 +41,9 @@ unwrapped true A B h e = absurd (true≢false e)
 unwrapped false A B h e = h
 
 module _ (meaning : List ℕ → Option Meant) (m : Model) (n : ℕ) (l : Lookup) (was : nth m.lookups n ≡ Some l) (g : Good meaning m) (plain : is_wrapped l ≡ false) where
-  bare : All (λ (s : Subtable). is_some s.extension ≡ false) l.subtables
+  bare : AllByRecursion (λ (s : Subtable). is_some s.extension ≡ false) l.subtables
   bare =
-      (unwrapped (eqb l.kind 7) (All (λ (s : Subtable). is_some s.extension ≡ true) l.subtables) ((l.kind ≡ 4) × All (λ (s : Subtable). is_some s.extension ≡ false) l.subtables)
+      (unwrapped (eqb l.kind 7) (AllByRecursion (λ (s : Subtable). is_some s.extension ≡ true) l.subtables) ((l.kind ≡ 4) × AllByRecursion (λ (s : Subtable). is_some s.extension ≡ false) l.subtables)
       (good_lookup meaning m n l was g).kind plain).1
 
   abbrev before : List Placed

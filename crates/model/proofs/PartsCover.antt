@@ -1,7 +1,7 @@
 -- The glyphs of a part: a stretch of the subtable's, of just the sets that the part has entries of; what neighbouring parts share.
 use Rattle.std.proofs.Common.{◌≡◌, ℕ, zero, suc, ◌+◌, ◌<◌, ◌≤◌, Bool, true, false, ◌||◌, eqb, ltb, ◌⊎◌, List, [], ◌∷◌, ◌++◌, map, length, sym, refl, ap, ◌∙◌, subst, inl, inr, ⊎_elim, append_assoc, arith}
 use mathlib.Core.List.{map-map, map-append}
-use Rattle.std.specs.List.{range_with_len, AllByRecursion as All}
+use Rattle.std.specs.List.{range_with_len, AllByRecursion}
 use Rattle.std.proofs.ByRecursion.{All-get_or}
 use Rattle.std.proofs.lemmas.Bool.{cases_Bool, cases_eq, eq-eqb, ne_eqb, eqb-true, cond-true, cond-false, both_ways, or_left, or_right, or_cases, and_parts, and_from, ltb-true}
 use Rattle.coverage.specs.Glyphs.{above, rises, GlyphList}
@@ -329,7 +329,7 @@ rises_covered s p gl c =
 
 -- ALL PARTS
 module _ (s : Subtable) (filled : FilledSets s.sets) where
-  covers_each : (xs : List Entry) (ps : List (List Entry)) → entries s ≡ xs ++ whole ps → All (Covers s) ps
+  covers_each : (xs : List Entry) (ps : List (List Entry)) → entries s ≡ xs ++ whole ps → AllByRecursion (Covers s) ps
   covers_each xs [] is = tt
   covers_each xs (p ∷ ps) is = (covers_run s filled xs p (whole ps) is, covers_each (xs ++ p) ps (is ∙ sym (append_assoc xs p (whole ps))))
 
@@ -339,13 +339,13 @@ module _ (s : Subtable) (filled : FilledSets s.sets) where
   covers_two xs (p ∷ q ∷ ps) is zero lt = covers_run s filled xs (p ++ q) (whole ps) (is ∙ ap (λ t. xs ++ t) (sym (append_assoc p q (whole ps))))
   covers_two xs (p ∷ q ∷ ps) is (suc k) lt = covers_two (xs ++ p) (q ∷ ps) (is ∙ sym (append_assoc xs p (whole (q ∷ ps)))) k (omega arith)
 
-sharing_two : (ps : List (List Entry)) → InOrder (whole ps) → All Filled ps → (k : ℕ) → suc k < length ps → Whole (nth_part ps k) (nth_part ps (suc k)) ⊎ Divided (nth_part ps k) (nth_part ps (suc k))
+sharing_two : (ps : List (List Entry)) → InOrder (whole ps) → AllByRecursion Filled ps → (k : ℕ) → suc k < length ps → Whole (nth_part ps k) (nth_part ps (suc k)) ⊎ Divided (nth_part ps k) (nth_part ps (suc k))
 sharing_two [] o f k lt = absurd (omega arith)
 sharing_two (p ∷ []) o f k lt = absurd (omega arith)
 sharing_two (p ∷ q ∷ ps) o f zero lt = sharing p q f.0 (order_front (p ++ q) (whole ps) (subst InOrder (sym (append_assoc p q (whole ps))) o))
 sharing_two (p ∷ q ∷ ps) o f (suc k) lt = sharing_two (q ∷ ps) (order_back p (whole (q ∷ ps)) o) f.1 k (omega arith)
 
-some_parts : (c : ℕ) (es : List Entry) → Fit c es → (k : ℕ) → suc k < length (parts c es) → All Filled (parts c es)
+some_parts : (c : ℕ) (es : List Entry) → Fit c es → (k : ℕ) → suc k < length (parts c es) → AllByRecursion Filled (parts c es)
 some_parts c [] f k lt = absurd (omega arith)
 some_parts c (e ∷ es) f k lt = parts_filled c (e ∷ es) f (omega arith)
 

@@ -1,6 +1,6 @@
 -- Groups of entries: how one entry more changes them, how many there are, what they hold; entries in order.
 use Rattle.std.proofs.Common.{◌≡◌, ℕ, suc, ◌+◌, ◌<◌, ◌≤◌, Bool, true, false, cond, eqb, ◌⊎◌, List, [], ◌∷◌, ◌++◌, map, length, Some, sym, refl, ap, ◌∙◌, subst, inl, inr, ⊎_elim, append_assoc, arith, length-append}
-use Rattle.std.specs.List.{flat_map, AllByRecursion as All}
+use Rattle.std.specs.List.{flat_map, AllByRecursion}
 use Rattle.std.proofs.lemmas.Bool.{cases_eq, eq-eqb, ne_eqb, eqb-true, cond-true, cond-false, both_ways}
 use Rattle.std.proofs.ByRecursion.{All-append}
 use Rattle.model.specs.Forest.{Ligature, LigatureSet, Subtable}
@@ -66,10 +66,10 @@ length-groups (e ∷ es) =
     (λ o. ap length o.is ∙ ap suc h ∙ sym (ap (λ (t : Bool). cond t 0 1 + touched es) o.other ∙ omega arith))
     (group_step e es)
 
-pub groups_filled : (es : List Entry) → All (λ (t : Group). 0 < length t.ligatures) (groups es)
+pub groups_filled : (es : List Entry) → AllByRecursion (λ (t : Group). 0 < length t.ligatures) (groups es)
 groups_filled [] = tt
 groups_filled (e ∷ es) =
-    let P : List Group → Type 0 = λ gs. All (λ (t : Group). 0 < length t.ligatures) gs in
+    let P : List Group → Type 0 = λ gs. AllByRecursion (λ (t : Group). 0 < length t.ligatures) gs in
     ⊎_elim
     (λ g. subst P (sym g.is) (omega arith, (subst P g.behind (groups_filled es)).1))
     (λ o. subst P (sym o.is) (omega arith, groups_filled es))
@@ -120,21 +120,21 @@ nth_at [] x ys = refl
 nth_at (z ∷ xs) x ys = nth_at xs x ys
 
 module _ (s : Subtable) where
-  stand_set : (i : ℕ) (t : LigatureSet) → nth s.sets i ≡ Some t → (done gs : List Ligature) → t.ligatures ≡ done ++ gs → All (Stands s) (entries_from i (length done) t gs)
+  stand_set : (i : ℕ) (t : LigatureSet) → nth s.sets i ≡ Some t → (done gs : List Ligature) → t.ligatures ≡ done ++ gs → AllByRecursion (Stands s) (entries_from i (length done) t gs)
   stand_set i t there done [] is = tt
   stand_set i t there done (g ∷ gs) is =
       let on : length (done ++ g ∷ []) ≡ suc (length done) = let n = length-append done (g ∷ []) in omega arith in
-      (record { home = t; there = there; owner = refl; first = refl; ligature = ap (λ (gs : List Ligature). nth gs (length done)) is ∙ nth_at done g gs }, subst (λ (j : ℕ). All (Stands s) (entries_from i j t gs)) on (stand_set i t there (done ++ g ∷ []) gs (is ∙ sym (append_assoc done (g ∷ []) gs))))
+      (record { home = t; there = there; owner = refl; first = refl; ligature = ap (λ (gs : List Ligature). nth gs (length done)) is ∙ nth_at done g gs }, subst (λ (j : ℕ). AllByRecursion (Stands s) (entries_from i j t gs)) on (stand_set i t there (done ++ g ∷ []) gs (is ∙ sym (append_assoc done (g ∷ []) gs))))
 
-  stand_sets : (done ts : List LigatureSet) → s.sets ≡ done ++ ts → All (Stands s) (sets_from (length done) ts)
+  stand_sets : (done ts : List LigatureSet) → s.sets ≡ done ++ ts → AllByRecursion (Stands s) (sets_from (length done) ts)
   stand_sets done [] is = tt
   stand_sets done (t ∷ ts) is =
       let on : length (done ++ t ∷ []) ≡ suc (length done) = let n = length-append done (t ∷ []) in omega arith in
       All-append (Stands s) (entries_from (length done) 0 t t.ligatures) (sets_from (suc (length done)) ts)
       (stand_set (length done) t (ap (λ (us : List LigatureSet). nth us (length done)) is ∙ nth_at done t ts) [] t.ligatures refl)
-      (subst (λ (i : ℕ). All (Stands s) (sets_from i ts)) on (stand_sets (done ++ t ∷ []) ts (is ∙ sym (append_assoc done (t ∷ []) ts))))
+      (subst (λ (i : ℕ). AllByRecursion (Stands s) (sets_from i ts)) on (stand_sets (done ++ t ∷ []) ts (is ∙ sym (append_assoc done (t ∷ []) ts))))
 
-  pub entries_stand : All (Stands s) (entries s)
+  pub entries_stand : AllByRecursion (Stands s) (entries s)
   entries_stand = stand_sets [] s.sets refl
 
 pub named : CutsNameTheirLigatures
@@ -149,7 +149,7 @@ pub order_back : (xs ys : List Entry) → InOrder (xs ++ ys) → InOrder ys
 order_back [] ys o = o
 order_back (x ∷ xs) ys o = order_back xs ys o.1
 
-pub order_parts : (ps : List (List Entry)) → InOrder (whole ps) → All InOrder ps
+pub order_parts : (ps : List (List Entry)) → InOrder (whole ps) → AllByRecursion InOrder ps
 order_parts [] o = tt
 order_parts (p ∷ ps) o = (order_front p (whole ps) o, order_parts ps (order_back p (whole ps) o))
 

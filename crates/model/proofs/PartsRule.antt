@@ -1,6 +1,6 @@
 -- The parts of a run of entries: they keep the cutting rule, and no other parts do.
 use Rattle.std.proofs.Common.{◌≡◌, ℕ, zero, suc, ◌+◌, ◌<◌, ◌≤◌, Bool, true, false, cond, List, [], ◌∷◌, ◌++◌, length, get_or, Some, None, sum_by, Option, sym, refl, ap, ◌∙◌, subst, ⊎_elim, append_assoc, append-nil, arith, length-append}
-use Rattle.std.specs.List.{flat_map, AllByRecursion as All}
+use Rattle.std.specs.List.{flat_map, AllByRecursion}
 use Rattle.std.proofs.ByRecursion.{All-get_or, All-from_get_or, All-weaker}
 use Rattle.std.proofs.lemmas.Bool.{cases_lt, le-leb, lt-leb, cond-true, cond-false}
 use Rattle.model.specs.Forest.{Subtable, Lookup, Model}
@@ -43,10 +43,10 @@ module _ (c : ℕ) where
   alone_fits : (e : Entry) → table_length e.ligature + 12 ≤ c → Within (e ∷ [])
   alone_fits e le = let h = run_size_one e in omega arith
 
-  within_from : (run es : List Entry) → Within run → All (λ (e : Entry). table_length e.ligature + 12 ≤ c) es → All Within (parts_from c run es)
+  within_from : (run es : List Entry) → Within run → AllByRecursion (λ (e : Entry). table_length e.ligature + 12 ≤ c) es → AllByRecursion Within (parts_from c run es)
   within_from run [] w a = (w, tt)
   within_from run (e ∷ es) w a =
-      either_way (All Within) run e es
+      either_way (AllByRecursion Within) run e es
       (λ le. within_from (run ++ e ∷ []) es le a.1)
       (λ lt. (w, within_from (e ∷ []) es (alone_fits e a.0) a.1))
 
@@ -77,10 +77,10 @@ module _ (c : ℕ) where
       (λ le. forced_from (run ++ e ∷ []) es)
       (λ lt. forced_next run e (parts_from c (e ∷ []) es) lt (begins_from (e ∷ []) es) (forced_from (e ∷ []) es))
 
-  pub filled_from : (run es : List Entry) → Filled run → All Filled (parts_from c run es)
+  pub filled_from : (run es : List Entry) → Filled run → AllByRecursion Filled (parts_from c run es)
   filled_from run [] f = (f, tt)
   filled_from run (e ∷ es) f =
-      either_way (All Filled) run e es
+      either_way (AllByRecursion Filled) run e es
       (λ le. filled_from (run ++ e ∷ []) es (let h = length-append run (e ∷ []) in omega arith))
       (λ lt. (f, filled_from (e ∷ []) es (omega arith)))
 
@@ -98,7 +98,7 @@ module _ (c : ℕ) (es : List Entry) where
   pub forced_parts : Forced c (parts c es)
   forced_parts = forced_from c [] es
 
-  pub parts_within : Fit c es → All (Within c) (parts c es)
+  pub parts_within : Fit c es → AllByRecursion (Within c) (parts c es)
   parts_within f = within_from c [] es (let h = run_size_none in let k = f.least in omega arith) f.short
 
   pub part_within : Fit c es → (k : ℕ) → k < length (parts c es) → run_size (nth_part (parts c es) k) ≤ c
@@ -107,10 +107,10 @@ module _ (c : ℕ) (es : List Entry) where
   pub parts_rule : Fit c es → CutRule c es (parts c es)
   parts_rule f = record { whole = joined_parts; within = part_within f; forced = forced_parts }
 
-pub parts_filled : (c : ℕ) (es : List Entry) → Fit c es → 0 < length es → All Filled (parts c es)
+pub parts_filled : (c : ℕ) (es : List Entry) → Fit c es → 0 < length es → AllByRecursion Filled (parts c es)
 parts_filled c [] f some = absurd (omega arith)
 parts_filled c (e ∷ es) f some =
-    subst (All Filled) (sym (parts_on c [] e es (alone_fits c e f.short.0))) (filled_from c (e ∷ []) es (omega arith))
+    subst (AllByRecursion Filled) (sym (parts_on c [] e es (alone_fits c e f.short.0))) (filled_from c (e ∷ []) es (omega arith))
 
 pub follow_the_rule : CutsFollowTheRule
 follow_the_rule c es f = (parts_rule c es f, parts_filled c es f)
@@ -127,7 +127,7 @@ module _ (c : ℕ) where
       parts_on c run e (rest ++ tail) (omega arith)
       ∙ parts_through (run ++ e ∷ []) rest tail w' ∙ ap (λ (t : List Entry). parts_from c t tail) a
 
-  only_from : (p : List Entry) (ps : List (List Entry)) → Forced c (p ∷ ps) → All (Within c) ps → parts_from c p (whole ps) ≡ p ∷ ps
+  only_from : (p : List Entry) (ps : List (List Entry)) → Forced c (p ∷ ps) → AllByRecursion (Within c) ps → parts_from c p (whole ps) ≡ p ∷ ps
   only_from p [] f w = refl
   only_from p (q ∷ ps) (next e rest is lt f) w =
       ap (λ (t : List Entry). parts_from c p (t ++ whole ps)) is
@@ -140,7 +140,7 @@ module _ (c : ℕ) where
   forced_some : Forced c [] → ⊥
   forced_some f = elim f [ ]
 
-  only_parts : (es : List Entry) (ps : List (List Entry)) → whole ps ≡ es → All (Within c) ps → Forced c ps → ps ≡ parts c es
+  only_parts : (es : List Entry) (ps : List (List Entry)) → whole ps ≡ es → AllByRecursion (Within c) ps → Forced c ps → ps ≡ parts c es
   only_parts es [] j w f = absurd (forced_some f)
   only_parts es (p ∷ ps) j w f =
       sym (only_from p ps f w.1) ∙ sym (parts_through [] p (whole ps) w.0) ∙ ap (parts c) j
@@ -192,7 +192,7 @@ module _ (c : ℕ) where
   one_part es le = sym (only_parts c es (es ∷ []) (append-nil es) (le, tt) last)
 
   pub one_part_met : (es : List Entry) → Fit c es → parts c es ≡ es ∷ [] → run_size es ≤ c
-  one_part_met es f is = (subst (All (Within c)) is (parts_within c es f)).0
+  one_part_met es f is = (subst (AllByRecursion (Within c)) is (parts_within c es f)).0
 
   pub no_cuts : (s : Subtable) → Meets c s → cuts c s ≡ []
   no_cuts s le = ap cuts_before (one_part (entries s) le)
@@ -209,11 +209,11 @@ module _ (c : ℕ) where
       let z : length (cuts c s) ≡ 0 = ap length none in
       one_part_met (entries s) f (only_one (entries s) (parts c (entries s)) (joined_parts c (entries s)) (omega arith))
 
-  no_cuts_all : (ss : List Subtable) → All (Meets c) ss → flat_map (cuts c) ss ≡ []
+  no_cuts_all : (ss : List Subtable) → AllByRecursion (Meets c) ss → flat_map (cuts c) ss ≡ []
   no_cuts_all [] a = refl
   no_cuts_all (s ∷ ss) a = ap (λ (t : List Cut). t ++ flat_map (cuts c) ss) (no_cuts s a.0) ∙ no_cuts_all ss a.1
 
-  pub no_cuts_lookup : (l : Lookup) → All (Meets c) l.subtables → all_cuts c l ≡ []
+  pub no_cuts_lookup : (l : Lookup) → AllByRecursion (Meets c) l.subtables → all_cuts c l ≡ []
   no_cuts_lookup l a = no_cuts_all l.subtables a
 
 none_more : (b : Bool) (n : ℕ) → n + cond b 0 0 ≡ n
@@ -228,25 +228,25 @@ module _ (c : ℕ) (wrapped : Bool) where
   after_same : (fresh : ℕ) (s : Subtable) → Meets c s → after_divided wrapped fresh (parts c (entries s)) ≡ fresh
   after_same fresh s le = ap (after_divided wrapped fresh) (one_part c (entries s) le) ∙ none_more wrapped fresh
 
-  subtables_same : (wrote : ℕ → List ℕ) (fresh : ℕ) (ss : List Subtable) → All (Meets c) ss → split_all c wrapped wrote fresh ss ≡ ss
+  subtables_same : (wrote : ℕ → List ℕ) (fresh : ℕ) (ss : List Subtable) → AllByRecursion (Meets c) ss → split_all c wrapped wrote fresh ss ≡ ss
   subtables_same wrote fresh [] a = refl
   subtables_same wrote fresh (s ∷ ss) a =
       ap (λ (t : List Subtable). t ++ split_all c wrapped wrote (after_divided wrapped fresh (parts c (entries s))) ss) (divided_same wrote fresh s a.0)
       ∙ ap (λ (n : ℕ). s ∷ split_all c wrapped wrote n ss) (after_same fresh s a.0)
       ∙ ap (λ (t : List Subtable). s ∷ t) (subtables_same wrote fresh ss a.1)
 
-  none_taken : (fresh : ℕ) (ss : List Subtable) → All (Meets c) ss → all_parts c wrapped fresh ss ≡ []
+  none_taken : (fresh : ℕ) (ss : List Subtable) → AllByRecursion (Meets c) ss → all_parts c wrapped fresh ss ≡ []
   none_taken fresh [] a = refl
   none_taken fresh (s ∷ ss) a =
       ap (λ (t : List Part). t ++ all_parts c wrapped (after_divided wrapped fresh (parts c (entries s))) ss) (ap (divided_parts wrapped fresh s) (one_part c (entries s) a.0))
       ∙ ap (λ (n : ℕ). all_parts c wrapped n ss) (after_same fresh s a.0)
       ∙ none_taken fresh ss a.1
 
-pub split_same : (c : ℕ) (wrote : ℕ → List ℕ) (fresh : ℕ) (l : Lookup) → All (Meets c) l.subtables → split_lookup c wrote fresh l ≡ l
+pub split_same : (c : ℕ) (wrote : ℕ → List ℕ) (fresh : ℕ) (l : Lookup) → AllByRecursion (Meets c) l.subtables → split_lookup c wrote fresh l ≡ l
 split_same c wrote fresh l a =
     ap (λ (ss : List Subtable). record { vertex = l.vertex; kind = l.kind; flag = l.flag; mark = l.mark; subtables = ss }) (subtables_same c (is_wrapped l) wrote fresh l.subtables a)
 
-pub split_free : (c : ℕ) (m : Model) (l : Lookup) → All (Meets c) l.subtables → split_bill c m l ≡ record { vertices = 0; links = 0; bytes = 0 }
+pub split_free : (c : ℕ) (m : Model) (l : Lookup) → AllByRecursion (Meets c) l.subtables → split_bill c m l ≡ record { vertices = 0; links = 0; bytes = 0 }
 split_free c m l a =
     let none = no_cuts_lookup c l a in
     let bill : List Cut → List Part → Bill
@@ -272,7 +272,7 @@ abbrev pub Fits : ℕ → Entry → Type 0
 Fits ceiling e = table_length e.ligature + 12 ≤ ceiling
 
 module _ (c : ℕ) where
-  short_entries : (es : List Entry) → long_in c es ≡ None → All (Fits c) es
+  short_entries : (es : List Entry) → long_in c es ≡ None → AllByRecursion (Fits c) es
   short_entries [] n = tt
   short_entries (e ∷ es) n =
       ⊎_elim
@@ -280,24 +280,24 @@ module _ (c : ℕ) where
       (λ le. (le, short_entries es (sym (cond-true _ _ _ (le-leb (table_length e.ligature + 12) c le)) ∙ n)))
       (cases_lt c (table_length e.ligature + 12))
 
-  pub short_subtables : (ss : List Subtable) → first_long c ss ≡ None → All (λ (s : Subtable). All (Fits c) (entries s)) ss
+  pub short_subtables : (ss : List Subtable) → first_long c ss ≡ None → AllByRecursion (λ (s : Subtable). AllByRecursion (Fits c) (entries s)) ss
   short_subtables ss n = joined_all (Fits c) entries ss (short_entries (flat_map entries ss) n)
 
   pub fit_entries : 16 ≤ c → (es : List Entry) → long_in c es ≡ None → Fit c es
   fit_entries least es n = record { least = least; short = short_entries es n }
 
-  pub fit_subtables : 16 ≤ c → (ss : List Subtable) → first_long c ss ≡ None → All (λ (s : Subtable). Fit c (entries s)) ss
+  pub fit_subtables : 16 ≤ c → (ss : List Subtable) → first_long c ss ≡ None → AllByRecursion (λ (s : Subtable). Fit c (entries s)) ss
   fit_subtables least ss n =
-      All-weaker (λ (s : Subtable). All (Fits c) (entries s)) (λ (s : Subtable). Fit c (entries s)) (λ s a. record { least = least; short = a }) ss (short_subtables ss n)
+      All-weaker (λ (s : Subtable). AllByRecursion (Fits c) (entries s)) (λ (s : Subtable). Fit c (entries s)) (λ s a. record { least = least; short = a }) ss (short_subtables ss n)
 
-  long_none : (es : List Entry) → All (Fits c) es → long_in c es ≡ None
+  long_none : (es : List Entry) → AllByRecursion (Fits c) es → long_in c es ≡ None
   long_none [] a = refl
   long_none (e ∷ es) a = cond-true _ _ _ (le-leb (table_length e.ligature + 12) c a.0) ∙ long_none es a.1
 
-  pub fit_none_long : (ss : List Subtable) → All (λ (s : Subtable). Fit c (entries s)) ss → first_long c ss ≡ None
+  pub fit_none_long : (ss : List Subtable) → AllByRecursion (λ (s : Subtable). Fit c (entries s)) ss → first_long c ss ≡ None
   fit_none_long ss a =
       long_none (flat_map entries ss)
-      (all_joined (Fits c) entries ss (All-weaker (λ (s : Subtable). Fit c (entries s)) (λ (s : Subtable). All (Fits c) (entries s)) (λ s f. f.short) ss a))
+      (all_joined (Fits c) entries ss (All-weaker (λ (s : Subtable). Fit c (entries s)) (λ (s : Subtable). AllByRecursion (Fits c) (entries s)) (λ s f. f.short) ss a))
 
 pub fitting : Fitting
 fitting = record { fits = λ c ss least none. fit_subtables c least ss none; short = fit_none_long }

@@ -1,6 +1,6 @@
 -- Where the vertex of a divided set goes: each set of a piece has the vertex of its set in that set's home, else a new one.
 use Rattle.std.proofs.Common.{◌≡◌, ℕ, zero, suc, ◌+◌, ◌<◌, ◌≤◌, Bool, true, false, ◌||◌, eqb, ◌⊎◌, List, [], ◌∷◌, ◌++◌, length, Some, sym, refl, ap, ◌∙◌, subst, inl, inr, ⊎_elim, arith}
-use Rattle.std.specs.List.{flat_map, AllByRecursion as All}
+use Rattle.std.specs.List.{flat_map, AllByRecursion}
 use Rattle.std.proofs.lemmas.Bool.{cases_Bool, cases_lt, cond_both, both_ways, eq-eqb, eqb-true, or_right}
 use Rattle.model.specs.Forest.{Ligature, LigatureSet, Subtable}
 use Rattle.model.specs.Rules.{nth}
@@ -29,7 +29,7 @@ record Known (s : Subtable) (p : List Entry) (t : Group) : Type 0 where
   owner : t.owner ≡ whole.vertex
   first : t.first ≡ whole.first
 
-groups_known : (s : Subtable) (p : List Entry) → All (Stands s) p → All (Known s p) (groups p)
+groups_known : (s : Subtable) (p : List Entry) → AllByRecursion (Stands s) p → AllByRecursion (Known s p) (groups p)
 groups_known s [] h = tt
 groups_known s (e ∷ es) h =
     join_all (Known s es) (Known s (e ∷ es)) e (groups es)
@@ -72,7 +72,7 @@ set_at own at (u ∷ us) (suc j) t e =
     (λ n f. set_on own at (suc at) u us j t (omega arith) (set_at own (suc at) us j t f))
     e
 
-settled_of : (fresh : ℕ) (s : Subtable) (ps : List (List Entry)) (k : ℕ) (p : List Entry) (d : Subtable) → All (Stands s) p → Piece fresh ps k p d
+settled_of : (fresh : ℕ) (s : Subtable) (ps : List (List Entry)) (k : ℕ) (p : List Entry) (d : Subtable) → AllByRecursion (Stands s) p → Piece fresh ps k p d
     → (j : ℕ) (t : LigatureSet) → nth d.sets j ≡ Some t → Settled fresh s ps k p j t
 settled_of fresh s ps k p d h b j t e =
     let a = set_at b.own b.at (groups p) j t (ap (λ (us : List LigatureSet). nth us j) (sym b.sets) ∙ e) in
@@ -220,11 +220,11 @@ module _ (wrapped : Bool) (wrote : ℕ → List ℕ) (fresh : ℕ) (s : Subtable
   abbrev ds : List Subtable
   ds = divided wrapped wrote fresh s (kept ∷ later)
 
-  stand : All (All (Stands s)) ps
-  stand = all_whole (Stands s) ps (subst (All (Stands s)) (sym w) (entries_stand s))
+  stand : AllByRecursion (AllByRecursion (Stands s)) ps
+  stand = all_whole (Stands s) ps (subst (AllByRecursion (Stands s)) (sym w) (entries_stand s))
 
   settle : (k : ℕ) (p : List Entry) (d : Subtable) → nth ps k ≡ Some p → nth ds k ≡ Some d → (j : ℕ) (t : LigatureSet) → nth d.sets j ≡ Some t → Settled fresh s ps k p j t
-  settle k p d e f = settled_of fresh s ps k p d (all-nth (All (Stands s)) ps k p e stand) (piece_of wrapped wrote fresh s filled kept later w k p d e f)
+  settle k p d e f = settled_of fresh s ps k p d (all-nth (AllByRecursion (Stands s)) ps k p e stand) (piece_of wrapped wrote fresh s filled kept later w k p d e f)
 
   find : (i : ℕ) (whole : LigatureSet) → nth s.sets i ≡ Some whole → Found ps ds i whole
   find i whole e =

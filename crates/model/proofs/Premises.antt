@@ -1,6 +1,6 @@
 -- The worked cases meet the premise of the theorems: their models are well-formed.
 use Rattle.std.proofs.Common.{◌≡◌, ℕ, ◌<◌, List, [], ◌∷◌, Some, Option, refl, lit<, lit≤}
-use Rattle.std.specs.List.{AllByRecursion as All}
+use Rattle.std.specs.List.{AllByRecursion}
 use Rattle.data_bytes.specs.BigEndian.{Bytes}
 use Rattle.coverage.specs.Glyphs.{is_glyph_list_of}
 use Rattle.coverage.specs.Meaning.{Meant}
@@ -12,7 +12,7 @@ use Rattle.model.specs.Samples.{model_s}
 use Rattle.model.specs.SecondSample.{model_t}
 use Rattle.std.proofs.ByRecursion.{All-get_or}
 
-pub bytes_all : (bs : List ℕ) → All (λ b. b < 256) bs → Bytes bs
+pub bytes_all : (bs : List ℕ) → AllByRecursion (λ b. b < 256) bs → Bytes bs
 bytes_all bs a k lt = All-get_or (λ b. b < 256) bs k 0 lt a
 
 -- under every meaning that gives its coverage its glyphs

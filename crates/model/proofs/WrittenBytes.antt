@@ -1,6 +1,6 @@
 -- What is written is bytes: each value has two of them.
 use Rattle.std.proofs.Common.{◌≡◌, ℕ, suc, ◌<◌, ◌≤◌, Bool, true, false, cond, eqb, List, [], ◌∷◌, ◌++◌, map, length, Some, None, Option, sym, refl, subst, arith}
-use Rattle.std.specs.List.{flat_map, AllByRecursion as All}
+use Rattle.std.specs.List.{flat_map, AllByRecursion}
 use Rattle.std.specs.Option.{option_to_list}
 use Rattle.std.proofs.ByRecursion.{All-append, All-map, All-weaker, All-get_or, All-from_get_or}
 use Rattle.std.proofs.lemmas.List.{length-map}
@@ -22,33 +22,33 @@ use Rattle.model.proofs.WrittenTables.{Near, near_all, near_slots, near_subtable
 abbrev Byte : ℕ → Type 0
 Byte b = b < 256
 
-value_bytes_lem : (vs : List ℕ) → All Value vs → All Byte (value_bytes vs)
+value_bytes_lem : (vs : List ℕ) → AllByRecursion Value vs → AllByRecursion Byte (value_bytes vs)
 value_bytes_lem [] a = tt
 value_bytes_lem (v ∷ vs) a = let h = a.0 in (omega arith, (omega arith, value_bytes_lem vs a.1))
 
 module _ (ss : List Start) where
   abbrev Spelled : Placed → Type 0
-  Spelled x = All Byte (filled ss x)
+  Spelled x = AllByRecursion Byte (filled ss x)
 
-  offsets : (v : ℕ) (ts : List ℕ) → All (λ t. ahead ss v t < 65536) ts → All Value (map (ahead ss v) ts)
+  offsets : (v : ℕ) (ts : List ℕ) → AllByRecursion (λ t. ahead ss v t < 65536) ts → AllByRecursion Value (map (ahead ss v) ts)
   offsets v ts a = All-map Value (ahead ss v) ts a
 
-  extension_spelled : (o : Option ℕ) (v : ℕ) → All Spelled (extension_walk o v)
+  extension_spelled : (o : Option ℕ) (v : ℕ) → AllByRecursion Spelled (extension_walk o v)
   extension_spelled None v = tt
   extension_spelled (Some e) v =
       let n = ahead ss e v in
       let slot = All-from_get_or Byte (spelled 4 n) 0 (bytes_spelled 4 n) in
-      (subst (λ (x : List ℕ). All Byte x) (sym (filled_extension ss e v)) (omega arith, (omega arith, (omega arith, (omega arith, slot)))), tt)
+      (subst (λ (x : List ℕ). AllByRecursion Byte x) (sym (filled_extension ss e v)) (omega arith, (omega arith, (omega arith, (omega arith, slot)))), tt)
 
   ligature_spelled : (c : ℕ) (g : Ligature) → GoodLigature g → Spelled (ligature_table c g)
   ligature_spelled c g good = value_bytes_lem (g.glyph ∷ suc (length g.components) ∷ g.components) (good.glyph, (good.count, good.components))
 
   set_spelled : (c : ℕ) (t : LigatureSet) → GoodSet t → Near ss (set_table c t) → Spelled (set_table c t)
   set_spelled c t good near =
-      subst (λ (x : List ℕ). All Byte x) (sym (filled_set ss c t near))
+      subst (λ (x : List ℕ). AllByRecursion Byte x) (sym (filled_set ss c t near))
       (value_bytes_lem (set_values ss t) (good.count, offsets t.vertex (ligature_vertices t) (near_slots ss t.vertex 2 (ligature_vertices t) near)))
 
-  ligatures_spelled : (c : ℕ) (ts : List LigatureSet) → All GoodSet ts → All (λ (t : LigatureSet). All Spelled (map (ligature_table c) t.ligatures)) ts
+  ligatures_spelled : (c : ℕ) (ts : List LigatureSet) → AllByRecursion GoodSet ts → AllByRecursion (λ (t : LigatureSet). AllByRecursion Spelled (map (ligature_table c) t.ligatures)) ts
   ligatures_spelled c [] a = tt
   ligatures_spelled c (t ∷ ts) a = (
     All-map Spelled (ligature_table c) t.ligatures (All-weaker GoodLigature (λ (g : Ligature). Spelled (ligature_table c g)) (ligature_spelled c) t.ligatures a.0.ligatures),
@@ -68,10 +68,10 @@ module _ (ss : List Start) where
     subtable_spelled s good near =
         let q = near_subtable ss s near in
         let few = few_sets s good in
-        subst (λ (x : List ℕ). All Byte x) (sym (filled_subtable ss s near))
+        subst (λ (x : List ℕ). AllByRecursion Byte x) (sym (filled_subtable ss s near))
         (value_bytes_lem (subtable_values ss s) (omega arith, (q.0, (omega arith, offsets s.vertex (set_vertices s) q.1))))
 
-    order_spelled : (s : Subtable) → GoodSubtable meaning s → All (Near ss) (subtable_order s) → All Spelled (subtable_order s)
+    order_spelled : (s : Subtable) → GoodSubtable meaning s → AllByRecursion (Near ss) (subtable_order s) → AllByRecursion Spelled (subtable_order s)
     order_spelled s good near =
         let c = s.coverage in
         let NearSet = λ (t : LigatureSet). Near ss (set_table c t) in
@@ -95,20 +95,20 @@ module _ (ss : List Start) where
         let few = good.count in
         let kind = kind_value l (eqb l.kind 7) _ _ refl good.kind in
         let far = offsets l.vertex (heads l) (near_slots ss l.vertex 6 (heads l) near) in
-        subst (λ (x : List ℕ). All Byte x) (sym (filled_lookup ss l near))
+        subst (λ (x : List ℕ). AllByRecursion Byte x) (sym (filled_lookup ss l near))
         (value_bytes_lem (lookup_values ss l)
         (kind, (good.flag, (omega arith, All-append Value (map (ahead ss l.vertex) (heads l)) (option_to_list l.mark) far (option_all Value l.mark good.mark)))))
 
-    all_spelled : (l : Lookup) → GoodLookup meaning l → All (Near ss) (write_order l) → All Spelled (write_order l)
+    all_spelled : (l : Lookup) → GoodLookup meaning l → AllByRecursion (Near ss) (write_order l) → AllByRecursion Spelled (write_order l)
     all_spelled l good near =
         let subs = l.subtables in
-        let NearOrder = λ (s : Subtable). All (Near ss) (subtable_order s) in
+        let NearOrder = λ (s : Subtable). AllByRecursion (Near ss) (subtable_order s) in
         let back = all_back (Near ss) (extensions_of subs) (flat_map subtable_order subs) near.1 in (
           lookup_spelled l good near.0,
           All-append Spelled (extensions_of subs) (flat_map subtable_order subs)
-              (all_joined Spelled (λ (s : Subtable). extension_walk s.extension s.vertex) subs (all_any (λ (s : Subtable). All Spelled (extension_walk s.extension s.vertex)) (λ s. extension_spelled s.extension s.vertex) subs))
+              (all_joined Spelled (λ (s : Subtable). extension_walk s.extension s.vertex) subs (all_any (λ (s : Subtable). AllByRecursion Spelled (extension_walk s.extension s.vertex)) (λ s. extension_spelled s.extension s.vertex) subs))
               (all_joined Spelled subtable_order subs
-              (All-weaker (λ (s : Subtable). GoodSubtable meaning s × NearOrder s) (λ (s : Subtable). All Spelled (subtable_order s)) (λ s x. order_spelled s x.0 x.1) subs
+              (All-weaker (λ (s : Subtable). GoodSubtable meaning s × NearOrder s) (λ (s : Subtable). AllByRecursion Spelled (subtable_order s)) (λ s x. order_spelled s x.0 x.1) subs
               (all_both (GoodSubtable meaning) NearOrder subs good.subtables (joined_all (Near ss) subtable_order subs back)))),
         )
 

@@ -1,6 +1,6 @@
 -- Behind extension tables no offset is too far, if each subtable's size is at most 65,535; and how long a lookup gets that is written.
 use Rattle.std.proofs.Common.{◌≡◌, ℕ, suc, ◌+◌, ◌*◌, ◌^◌, ◌<◌, ◌≤◌, Bool, true, false, cond, ltb, List, [], ◌∷◌, ◌++◌, map, length, is_some, Some, None, sum_by, Option, sym, refl, ap, ◌∙◌, subst, arith}
-use Rattle.std.specs.List.{flat_map, AllByRecursion as All}
+use Rattle.std.specs.List.{flat_map, AllByRecursion}
 use Rattle.std.proofs.ByRecursion.{All-append, All-map, All-weaker}
 use Rattle.std.proofs.lemmas.List.{length-map}
 use Rattle.std.proofs.lemmas.List.Sums.{sum_by-append}
@@ -34,7 +34,7 @@ set_sizes c i (t ∷ ts) =
     let e = sizes_append (map (ligature_table c) t.ligatures) (flat_map (λ (u : LigatureSet). map (ligature_table c) u.ligatures) ts) in
     omega arith
 
-pub size_body : (s : Subtable) → All (λ (t : LigatureSet). 0 < length t.ligatures) s.sets → subtable_size s ≡ body_size s
+pub size_body : (s : Subtable) → AllByRecursion (λ (t : LigatureSet). 0 < length t.ligatures) s.sets → subtable_size s ≡ body_size s
 unfolding run_size
 size_body s a =
     let h = touched_sets 0 s.sets a in
@@ -44,7 +44,7 @@ size_body s a =
 
 -- NO OFFSET IS TOO FAR
 module _ (Q : Placed → Type 0) (ss : List Start) (bs : List ℕ) where
-  set_near : (c low middle high : ℕ) (t : LigatureSet) → Sits Q ss bs low middle (set_table c t) → All (λ (g : Ligature). Sits Q ss bs middle high (ligature_table c g)) t.ligatures
+  set_near : (c low middle high : ℕ) (t : LigatureSet) → Sits Q ss bs low middle (set_table c t) → AllByRecursion (λ (g : Ligature). Sits Q ss bs middle high (ligature_table c g)) t.ligatures
       → high ≤ low + 65535 → Near ss (set_table c t)
   set_near c low middle high t h a le =
       slots_near ss t.vertex 2 (ligature_vertices t)
@@ -52,7 +52,7 @@ module _ (Q : Placed → Type 0) (ss : List Start) (bs : List ℕ) where
       (All-weaker (λ (g : Ligature). Sits Q ss bs middle high (ligature_table c g)) (λ (g : Ligature). ahead ss t.vertex g.vertex ≤ 65535)
       (λ g s. let from = h.from in let to = s.to in omega arith) t.ligatures a))
 
-  pub subtable_near : (low : ℕ) (s : Subtable) → SubtableLies Q ss bs low s → body_size s ≤ 65535 → All (Near ss) (subtable_order s)
+  pub subtable_near : (low : ℕ) (s : Subtable) → SubtableLies Q ss bs low s → body_size s ≤ 65535 → AllByRecursion (Near ss) (subtable_order s)
   subtable_near low s h le =
       let c = s.coverage in
       let v = s.vertex in
@@ -61,7 +61,7 @@ module _ (Q : Placed → Type 0) (ss : List Start) (bs : List ℕ) where
       let end = h.coverage.start in
       let long = h.long in
       let SetSits = λ (t : LigatureSet). Sits Q ss bs p h.middle (set_table c t) in
-      let Lines = λ (t : LigatureSet). All (λ (g : Ligature). Sits Q ss bs h.middle h.end (ligature_table c g)) t.ligatures in (
+      let Lines = λ (t : LigatureSet). AllByRecursion (λ (g : Ligature). Sits Q ss bs h.middle h.end (ligature_table c g)) t.ligatures in (
         or_from (ltb 65535 (ahead ss v c)) (too_far ss v (slots_from 6 (set_vertices s))) (le-ltb 65535 (ahead ss v c) (omega arith))
             (slots_near ss v 6 (set_vertices s)
             (All-map (λ u. ahead ss v u ≤ 65535) (λ (t : LigatureSet). t.vertex) s.sets
@@ -72,12 +72,12 @@ module _ (Q : Placed → Type 0) (ss : List Start) (bs : List ℕ) where
             (all_both SetSits Lines s.sets h.sets h.ligatures)))
             (All-append (Near ss) (ligature_tables s) (coverage_table s ∷ [])
             (all_joined (Near ss) (λ (t : LigatureSet). map (ligature_table c) t.ligatures) s.sets
-            (all_any (λ (t : LigatureSet). All (Near ss) (map (ligature_table c) t.ligatures))
+            (all_any (λ (t : LigatureSet). AllByRecursion (Near ss) (map (ligature_table c) t.ligatures))
             (λ t. All-map (Near ss) (ligature_table c) t.ligatures (all_any (λ (g : Ligature). Near ss (ligature_table c g)) (λ g. refl) t.ligatures)) s.sets))
             (refl, tt)),
       )
 
-  extended_near : (v m : ℕ) (o : Option ℕ) (w : ℕ) → is_some o ≡ true → All (Sits Q ss bs 0 m) (extension_walk o w) → m ≤ 65543 → ahead ss v (head_or o w) ≤ 65535
+  extended_near : (v m : ℕ) (o : Option ℕ) (w : ℕ) → is_some o ≡ true → AllByRecursion (Sits Q ss bs 0 m) (extension_walk o w) → m ≤ 65543 → ahead ss v (head_or o w) ≤ 65535
   extended_near v m None w some a le = absurd (both_ways false refl some)
   extended_near v m (Some e) w some a le = let to = a.0.to in omega arith
 
@@ -93,7 +93,7 @@ sizes_extensions (s ∷ subs) =
     let b = sizes_extension s.extension s.vertex in
     omega arith
 
-near_extension : (ss : List Start) (o : Option ℕ) (v : ℕ) → All (Near ss) (extension_walk o v)
+near_extension : (ss : List Start) (o : Option ℕ) (v : ℕ) → AllByRecursion (Near ss) (extension_walk o v)
 near_extension ss None v = tt
 near_extension ss (Some e) v = (refl, tt)
 
@@ -106,7 +106,7 @@ head_short l few =
     omega arith
 
 pub none_overflows : (meaning : List ℕ → Option Meant) (l : Lookup) → GoodLookup meaning l → Distinct (map vertex_of (lookup_walk l)) → l.kind ≡ 7
-    → All (λ (s : Subtable). subtable_size s ≤ 65535) l.subtables → overflows l ≡ false
+    → AllByRecursion (λ (s : Subtable). subtable_size s ≤ 65535) l.subtables → overflows l ≡ false
 none_overflows meaning l good d kind short =
     let ss = starts_in l in
     let bs = written l in
@@ -116,9 +116,9 @@ none_overflows meaning l good d kind short =
     let h = lookup_lies Q l d (all_any Q (λ x. tt) (write_order l)) in
     let v = l.vertex in
     let Extended = λ (s : Subtable). is_some s.extension ≡ true in
-    let Exts = λ (s : Subtable). All (Sits Q ss bs 0 m) (extension_walk s.extension s.vertex) in
-    let kinds : All Extended subs =
-    subst (λ (b : Bool). cond b (All Extended subs) ((l.kind ≡ 4) × All (λ (s : Subtable). is_some s.extension ≡ false) subs)) (eq-eqb l.kind 7 kind) good.kind in
+    let Exts = λ (s : Subtable). AllByRecursion (Sits Q ss bs 0 m) (extension_walk s.extension s.vertex) in
+    let kinds : AllByRecursion Extended subs =
+    subst (λ (b : Bool). cond b (AllByRecursion Extended subs) ((l.kind ≡ 4) × AllByRecursion (λ (s : Subtable). is_some s.extension ≡ false) subs)) (eq-eqb l.kind 7 kind) good.kind in
     let few = head_short l good.count in
     let near-heads = All-weaker (λ (s : Subtable). Extended s × Exts s) (λ (s : Subtable). ahead ss v (head s) ≤ 65535)
     (λ s x. extended_near Q ss bs v m s.extension s.vertex x.0 x.1 (omega arith)) subs (all_both Extended Exts subs kinds h.extensions) in
@@ -129,9 +129,9 @@ none_overflows meaning l good d kind short =
       slots_near ss v 6 (heads l) (All-map (λ t. ahead ss v t ≤ 65535) (λ (s : Subtable). head s) subs near-heads),
       All-append (Near ss) (extensions_of subs) (flat_map subtable_order subs)
           (all_joined (Near ss) (λ (s : Subtable). extension_walk s.extension s.vertex) subs
-          (all_any (λ (s : Subtable). All (Near ss) (extension_walk s.extension s.vertex)) (λ s. near_extension ss s.extension s.vertex) subs))
+          (all_any (λ (s : Subtable). AllByRecursion (Near ss) (extension_walk s.extension s.vertex)) (λ s. near_extension ss s.extension s.vertex) subs))
           (all_joined (Near ss) subtable_order subs
-          (All-weaker (λ (s : Subtable). Both s × Lies s) (λ (s : Subtable). All (Near ss) (subtable_order s))
+          (All-weaker (λ (s : Subtable). Both s × Lies s) (λ (s : Subtable). AllByRecursion (Near ss) (subtable_order s))
           (λ s x. let e = size_body s (sets_full s.sets x.0.1.sets) in let le = x.0.0 in subtable_near Q ss bs m s x.1 (omega arith)) subs
           (all_both Both Lies subs (all_both Short (GoodSubtable meaning) subs short good.subtables) h.subtables))),
     )
@@ -140,7 +140,7 @@ none_overflows meaning l good d kind short =
 abbrev pub Small : Subtable → Type 0
 Small s = sizes (subtable_order s) ≤ 262144
 
-sizes_subtables : (subs : List Subtable) → All Small subs → sizes (flat_map subtable_order subs) ≤ 262144 * length subs
+sizes_subtables : (subs : List Subtable) → AllByRecursion Small subs → sizes (flat_map subtable_order subs) ≤ 262144 * length subs
 sizes_subtables [] a = omega arith
 sizes_subtables (s ∷ subs) a =
     let h = sizes_subtables subs a.1 in

@@ -1,6 +1,6 @@
 -- Reading what was written: ligatures, sets, subtables, extension tables, the lookup.
 use Rattle.std.proofs.Common.{◌≡◌, ℕ, suc, ◌+◌, ◌-◌, ◌*◌, ◌^◌, ◌<◌, ◌≤◌, Bool, true, false, cond, ◌||◌, eqb, List, [], ◌∷◌, ◌++◌, map, length, get_or, drop, is_some, Some, None, Ok, Err, Option, sym, refl, ap, ◌∙◌, subst, arith, length-append}
-use Rattle.std.specs.List.{flat_map, AllByRecursion as All}
+use Rattle.std.specs.List.{flat_map, AllByRecursion}
 use Rattle.std.specs.Option.{option_to_list}
 use Rattle.std.proofs.ByRecursion.{All-get_or}
 use Rattle.std.proofs.lemmas.List.{append-nil, length-map, get_or-map, get_or-append-add, get_or_append_left, take_all}
@@ -80,7 +80,7 @@ joined_each f (x ∷ xs) = ap (λ t. f x ∷ t) (joined_each f xs)
 
 -- A SET
 pub set_reads : (ss : List Start) (bs : List ℕ) (c low middle high : ℕ) (t : LigatureSet) → Sits (Near ss) ss bs low middle (set_table c t)
-    → All (λ (g : Ligature). Sits (Near ss) ss bs middle high (ligature_table c g)) t.ligatures → set_at bs t.first (start_of ss t.vertex) ≡ Ok (set_rules t)
+    → AllByRecursion (λ (g : Ligature). Sits (Near ss) ss bs middle high (ligature_table c g)) t.ligatures → set_at bs t.first (start_of ss t.vertex) ≡ Ok (set_rules t)
 set_reads ss bs c low middle high t h a =
     let count = word_stands bs p (set_values ss t) st 0 p (omega arith) (omega arith) in
     let w = values_within bs p (set_values ss t) st in
@@ -160,7 +160,7 @@ module _ (admits : List ℕ → Type 0) (meaning : List ℕ → Option Meant) (s
             let c = s.coverage in
             let t = get_or s.sets k d in
             let a = All-get_or (λ (t : LigatureSet). Sits (Near ss) ss bs p h.middle (set_table c t)) s.sets k d lt h.sets in
-            let b = All-get_or (λ (t : LigatureSet). All (λ (g : Ligature). Sits (Near ss) ss bs h.middle h.end (ligature_table c g)) t.ligatures) s.sets k d lt h.ligatures in
+            let b = All-get_or (λ (t : LigatureSet). AllByRecursion (λ (g : Ligature). Sits (Near ss) ss bs h.middle h.end (ligature_table c g)) t.ligatures) s.sets k d lt h.ligatures in
             let from = a.from in
             let m = length-map s.sets (λ (t : LigatureSet). t.vertex) in
             let z : 0 + k ≡ k = omega arith in
@@ -190,7 +190,7 @@ extension_reads meaning ss bs low high e v h behind small =
 
 -- with an extension table, and without
 extended_reads : (meaning : List ℕ → Option Meant) (ss : List Start) (bs : List ℕ) (low high : ℕ) (o : Option ℕ) (v : ℕ) → is_some o ≡ true
-    → All (Sits (Near ss) ss bs low high) (extension_walk o v) → high ≤ start_of ss v → start_of ss v < 256 ^ 4
+    → AllByRecursion (Sits (Near ss) ss bs low high) (extension_walk o v) → high ≤ start_of ss v → start_of ss v < 256 ^ 4
     → extension_at meaning bs (start_of ss (head_or o v)) ≡ subtable_at meaning bs (start_of ss v)
 extended_reads meaning ss bs low high None v some a behind small = absurd (both_ways false refl some)
 extended_reads meaning ss bs low high (Some e) v some a behind small = extension_reads meaning ss bs low high e v a.0 behind small
@@ -217,21 +217,21 @@ lookup_at meaning bs kind flag n marks k f c known m within =
 
 module _ (admits : List ℕ → Type 0) (meaning : List ℕ → Option Meant) (span : List ℕ → ℕ) (lawful : Lawful admits meaning span) where
   abbrev Kinds : Lookup → Bool → Type 0
-  Kinds l b = cond b (All (λ (s : Subtable). is_some s.extension ≡ true) l.subtables) ((l.kind ≡ 4) × All (λ (s : Subtable). is_some s.extension ≡ false) l.subtables)
+  Kinds l b = cond b (AllByRecursion (λ (s : Subtable). is_some s.extension ≡ true) l.subtables) ((l.kind ≡ 4) × AllByRecursion (λ (s : Subtable). is_some s.extension ≡ false) l.subtables)
 
   kind_known : (l : Lookup) (b : Bool) → eqb l.kind 7 ≡ b → Kinds l b → (eqb l.kind 4 || eqb l.kind 7) ≡ true
   kind_known l true e k = or_right (eqb l.kind 4) (eqb l.kind 7) e
   kind_known l false e k = or_left (eqb l.kind 4) (eqb l.kind 7) (eq-eqb l.kind 4 k.0)
 
   module _ (ss : List Start) (bs : List ℕ) (small : length bs < 256 ^ 4) where
-    entry_reads : (l : Lookup) (m k : ℕ) (d : Subtable) → k < length l.subtables → All (GoodSubtable meaning) l.subtables
-        → All (λ (s : Subtable). All (Sits (Near ss) ss bs 0 m) (extension_walk s.extension s.vertex)) l.subtables → All (SubtableLies (Near ss) ss bs m) l.subtables
+    entry_reads : (l : Lookup) (m k : ℕ) (d : Subtable) → k < length l.subtables → AllByRecursion (GoodSubtable meaning) l.subtables
+        → AllByRecursion (λ (s : Subtable). AllByRecursion (Sits (Near ss) ss bs 0 m) (extension_walk s.extension s.vertex)) l.subtables → AllByRecursion (SubtableLies (Near ss) ss bs m) l.subtables
         → (b : Bool) → Kinds l b
         → cond b (extension_at meaning bs (start_of ss (head (get_or l.subtables k d)))) (subtable_at meaning bs (start_of ss (head (get_or l.subtables k d)))) ≡ Ok (subtable_rules (get_or l.subtables k d))
     entry_reads l m k d lt good exts subs true kinds =
         let s = get_or l.subtables k d in
         let e = All-get_or (λ (s : Subtable). is_some s.extension ≡ true) l.subtables k d lt kinds in
-        let x = All-get_or (λ (s : Subtable). All (Sits (Near ss) ss bs 0 m) (extension_walk s.extension s.vertex)) l.subtables k d lt exts in
+        let x = All-get_or (λ (s : Subtable). AllByRecursion (Sits (Near ss) ss bs 0 m) (extension_walk s.extension s.vertex)) l.subtables k d lt exts in
         let h = All-get_or (SubtableLies (Near ss) ss bs m) l.subtables k d lt subs in
         let start = h.own.start in
         let from = h.from in

@@ -1,6 +1,6 @@
 -- The tables of a written lookup as lists of values: no offset too far, the slots hold how far it is to their targets.
 use Rattle.std.proofs.Common.{◌≡◌, ℕ, ◌+◌, ◌<◌, ◌≤◌, Bool, false, ◌||◌, ltb, List, [], ◌∷◌, ◌++◌, map, length, refl, ap, ◌∙◌, arith, length-append}
-use Rattle.std.specs.List.{AllByRecursion as All}
+use Rattle.std.specs.List.{AllByRecursion}
 use Rattle.std.specs.Option.{option_to_list}
 use Rattle.std.proofs.lemmas.List.{append-nil, length-map}
 use Rattle.std.proofs.lemmas.Bool.{or_from, or_parts, le-ltb, ltb-false}
@@ -15,13 +15,13 @@ use Rattle.model.proofs.LayPlaces.{ahead, put_value, fill_values, fill_last}
 abbrev pub Near : List Start → Placed → Type 0
 Near ss x = too_far ss x.vertex x.table.slots ≡ false
 
-pub near_all : (ss : List Start) (xs : List Placed) → any_too_far ss xs ≡ false → All (Near ss) xs
+pub near_all : (ss : List Start) (xs : List Placed) → any_too_far ss xs ≡ false → AllByRecursion (Near ss) xs
 near_all ss [] h = tt
 near_all ss (x ∷ xs) h =
     let p = or_parts (too_far ss x.vertex x.table.slots) (any_too_far ss xs) h in
     (p.0, near_all ss xs p.1)
 
-pub all_near : (ss : List Start) (xs : List Placed) → All (Near ss) xs → any_too_far ss xs ≡ false
+pub all_near : (ss : List Start) (xs : List Placed) → AllByRecursion (Near ss) xs → any_too_far ss xs ≡ false
 all_near ss [] a = refl
 all_near ss (x ∷ xs) a = or_from (too_far ss x.vertex x.table.slots) (any_too_far ss xs) a.0 (all_near ss xs a.1)
 
@@ -32,11 +32,11 @@ module _ (ss : List Start) (v : ℕ) where
       let le = ltb-false 65535 (ahead ss v t) q.0 in
       (omega arith, q.1)
 
-  pub near_slots : (p : ℕ) (ts : List ℕ) → too_far ss v (slots_from p ts) ≡ false → All (λ t. ahead ss v t < 65536) ts
+  pub near_slots : (p : ℕ) (ts : List ℕ) → too_far ss v (slots_from p ts) ≡ false → AllByRecursion (λ t. ahead ss v t < 65536) ts
   near_slots p [] h = tt
   near_slots p (t ∷ ts) h = let q = near_first t (too_far ss v (slots_from (p + 2) ts)) h in (q.0, near_slots (p + 2) ts q.1)
 
-  pub slots_near : (p : ℕ) (ts : List ℕ) → All (λ t. ahead ss v t ≤ 65535) ts → too_far ss v (slots_from p ts) ≡ false
+  pub slots_near : (p : ℕ) (ts : List ℕ) → AllByRecursion (λ t. ahead ss v t ≤ 65535) ts → too_far ss v (slots_from p ts) ≡ false
   slots_near p [] a = refl
   slots_near p (t ∷ ts) a = or_from (ltb 65535 (ahead ss v t)) (too_far ss v (slots_from (p + 2) ts)) (le-ltb 65535 (ahead ss v t) a.0) (slots_near (p + 2) ts a.1)
 
@@ -80,7 +80,7 @@ module _ (ss : List Start) where
       let c = length-map t.ligatures (λ (g : Ligature). g.vertex) in
       omega arith
 
-  pub near_subtable : (s : Subtable) → Near ss (subtable_table s) → (ahead ss s.vertex s.coverage < 65536) × All (λ t. ahead ss s.vertex t < 65536) (set_vertices s)
+  pub near_subtable : (s : Subtable) → Near ss (subtable_table s) → (ahead ss s.vertex s.coverage < 65536) × AllByRecursion (λ t. ahead ss s.vertex t < 65536) (set_vertices s)
   near_subtable s near =
       let q = near_first ss s.vertex s.coverage (too_far ss s.vertex (slots_from 6 (set_vertices s))) near in
       (q.0, near_slots ss s.vertex 6 (set_vertices s) q.1)

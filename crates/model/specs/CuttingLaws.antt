@@ -1,6 +1,6 @@
 -- What is shown of cutting: the running size, the parts and their rule, when nothing is cut, and the glyphs that a part covers.
 use Rattle.std.specs.Prelude.{◌≡◌, ℕ, suc, ◌+◌, ◌<◌, ◌≤◌, Bool, true, false, cond, ◌||◌, ◌⊎◌, List, [], ◌∷◌, ◌++◌, map, length, Some, None, sum_by, ◌==◌, slice_index_or}
-use Rattle.std.specs.List.{flat_map, AllByRecursion as All, range_with_len}
+use Rattle.std.specs.List.{flat_map, AllByRecursion, range_with_len}
 use Rattle.coverage.specs.Glyphs.{GlyphList}
 use Rattle.model.specs.Forest.{Ligature, LigatureSet, Subtable, Lookup, Model}
 use Rattle.model.specs.Tables.{Placed, ligature_table, subtable_table, set_walk}
@@ -12,12 +12,12 @@ use Rattle.model.specs.Splitting.{Group, groups, has, all_cuts, split_lookup, sp
 -- a ceiling of at least 16, and no ligature too long for it: each fits into a part of its own
 pub record Fit (ceiling : ℕ) (es : List Entry) : Type 0 where
   pub least : 16 ≤ ceiling
-  pub short : All (λ (e : Entry). table_length e.ligature + 12 ≤ ceiling) es
+  pub short : AllByRecursion (λ (e : Entry). table_length e.ligature + 12 ≤ ceiling) es
 
 -- at such a ceiling, just where a split refuses no ligature as too long
 pub record Fitting : Type 0 where
-  pub fits : (ceiling : ℕ) (ss : List Subtable) → 16 ≤ ceiling → first_long ceiling ss ≡ None → All (λ (s : Subtable). Fit ceiling (entries s)) ss
-  pub short : (ceiling : ℕ) (ss : List Subtable) → All (λ (s : Subtable). Fit ceiling (entries s)) ss → first_long ceiling ss ≡ None
+  pub fits : (ceiling : ℕ) (ss : List Subtable) → 16 ≤ ceiling → first_long ceiling ss ≡ None → AllByRecursion (λ (s : Subtable). Fit ceiling (entries s)) ss
+  pub short : (ceiling : ℕ) (ss : List Subtable) → AllByRecursion (λ (s : Subtable). Fit ceiling (entries s)) ss → first_long ceiling ss ≡ None
 
 -- whether an entry is of the set that the run before it ends with; if not, it opens a set
 abbrev pub goes_on : List Entry → Entry → Bool
@@ -38,7 +38,7 @@ Filled p = 0 < length p
 
 abbrev pub CutsFollowTheRule : Type 0
 CutsFollowTheRule =
-    (ceiling : ℕ) (es : List Entry) → Fit ceiling es → CutRule ceiling es (parts ceiling es) × (0 < length es → All Filled (parts ceiling es))
+    (ceiling : ℕ) (es : List Entry) → Fit ceiling es → CutRule ceiling es (parts ceiling es) × (0 < length es → AllByRecursion Filled (parts ceiling es))
 
 -- and no other parts do
 abbrev pub RuleAllowsOnlyThese : Type 0
@@ -55,10 +55,10 @@ pub record Uncut : Type 0 where
   pub met : (ceiling : ℕ) (es : List Entry) → Fit ceiling es → parts ceiling es ≡ es ∷ [] → run_size es ≤ ceiling
   pub none : (ceiling : ℕ) (s : Subtable) → Meets ceiling s → cuts ceiling s ≡ []
   pub only : (ceiling : ℕ) (s : Subtable) → Fit ceiling (entries s) → cuts ceiling s ≡ [] → Meets ceiling s
-  pub lookup : (ceiling : ℕ) (l : Lookup) → All (Meets ceiling) l.subtables → all_cuts ceiling l ≡ []
+  pub lookup : (ceiling : ℕ) (l : Lookup) → AllByRecursion (Meets ceiling) l.subtables → all_cuts ceiling l ≡ []
   -- and then the lookup stays as it is, and nothing is taken
-  pub same : (ceiling : ℕ) (wrote : ℕ → List ℕ) (fresh : ℕ) (l : Lookup) → All (Meets ceiling) l.subtables → split_lookup ceiling wrote fresh l ≡ l
-  pub free : (ceiling : ℕ) (m : Model) (l : Lookup) → All (Meets ceiling) l.subtables → split_bill ceiling m l ≡ record { vertices = 0; links = 0; bytes = 0 }
+  pub same : (ceiling : ℕ) (wrote : ℕ → List ℕ) (fresh : ℕ) (l : Lookup) → AllByRecursion (Meets ceiling) l.subtables → split_lookup ceiling wrote fresh l ≡ l
+  pub free : (ceiling : ℕ) (m : Model) (l : Lookup) → AllByRecursion (Meets ceiling) l.subtables → split_bill ceiling m l ≡ record { vertices = 0; links = 0; bytes = 0 }
 
 -- A CUT names the ligature that the part behind it begins with, by the index of its set and its place there
 pub record Before (c : Cut) (p : List Entry) : Type 0 where
@@ -78,7 +78,7 @@ pub record Stands (s : Subtable) (e : Entry) : Type 0 where
 
 pub record Naming (ceiling : ℕ) (s : Subtable) : Type 0 where
   pub cut : (k : ℕ) (d : Cut) → k < length (cuts ceiling s) → Before (slice_index_or (cuts ceiling s) k d) (nth_part (parts ceiling (entries s)) (suc k))
-  pub stand : All (Stands s) (entries s)
+  pub stand : AllByRecursion (Stands s) (entries s)
 
 abbrev pub CutsNameTheirLigatures : Type 0
 CutsNameTheirLigatures = (ceiling : ℕ) (s : Subtable) → Naming ceiling s
@@ -109,7 +109,7 @@ groups_from i (t ∷ ts) = record { set = i; owner = t.vertex; first = t.first; 
 
 -- no set is empty
 abbrev pub FilledSets : List LigatureSet → Type 0
-FilledSets ts = All (λ (t : LigatureSet). 0 < length t.ligatures) ts
+FilledSets ts = AllByRecursion (λ (t : LigatureSet). 0 < length t.ligatures) ts
 
 -- a ligature with its first glyph
 abbrev pub under : ℕ → Ligature → ℕ × Ligature
@@ -119,7 +119,7 @@ under first g = (first, g)
 pub record Grouping : Type 0 where
   -- as many groups as sets touched, none empty
   pub count : (es : List Entry) → length (groups es) ≡ touched es
-  pub filled : (es : List Entry) → All (λ (t : Group). 0 < length t.ligatures) (groups es)
+  pub filled : (es : List Entry) → AllByRecursion (λ (t : Group). 0 < length t.ligatures) (groups es)
   -- the ligatures with their first glyphs, in order
   pub flat : (es : List Entry) → InOrder es → flat_map (λ (t : Group). map (under t.first) t.ligatures) (groups es) ≡ map (λ (e : Entry). under e.first e.ligature) es
   pub order : (s : Subtable) → InOrder (entries s)

@@ -1,6 +1,6 @@
 -- What splitting and wrapping keep: rules, shaping, sizes, well-formed lookups; and how many subtables are new.
 use Rattle.std.specs.Prelude.{◌≡◌, ℕ, ◌+◌, ◌≤◌, Bool, List, ◌++◌, map, length, Some, None, Ok, Err, Option, Result, ◌≢◌}
-use Rattle.std.specs.List.{flat_map, AllByRecursion as All}
+use Rattle.std.specs.List.{flat_map, AllByRecursion}
 use Rattle.refusals.specs.declared.Refusal.{Refusal}
 use Rattle.coverage.specs.Meaning.{Meant}
 use Rattle.model.specs.Forest.{Subtable, Lookup, Model}
@@ -58,7 +58,7 @@ WrappingKeepsRules = (caps : Capacities) (m : Model) (n : ℕ) (c : Changed) →
 
 -- SIZES, coverage apart: of each subtable of a lookup
 abbrev pub Within : ℕ → Lookup → Type 0
-Within bound l = All (λ (s : Subtable). subtable_size s ≤ bound) l.subtables
+Within bound l = AllByRecursion (λ (s : Subtable). subtable_size s ≤ bound) l.subtables
 
 -- of each subtable of lookup n, if there is one
 abbrev pub WithinIn : ℕ → Option Lookup → Type 0
@@ -72,7 +72,7 @@ WithinAt bound m n = WithinIn bound (nth m.lookups n)
 abbrev pub DivisionsDoNotGrow : Type 0
 DivisionsDoNotGrow =
     (ceiling : ℕ) (wrapped : Bool) (wrote : ℕ → List ℕ) (fresh : ℕ) (s : Subtable)
-    → All (λ (t : Subtable). subtable_size t ≤ subtable_size s) (divided wrapped wrote fresh s (parts ceiling (entries s)))
+    → AllByRecursion (λ (t : Subtable). subtable_size t ≤ subtable_size s) (divided wrapped wrote fresh s (parts ceiling (entries s)))
 
 -- after a split none of the lookup is above the ceiling; and whatever bound held of a lookup still does
 pub record SplitSizes (n ceiling : ℕ) (before after : Model) : Type 0 where
@@ -95,7 +95,7 @@ SplittingKeepsLookupsWellFormed =
     → GoodLookup meaning l
     → first_long ceiling l.subtables ≡ None
     → subtables_after ceiling l ≤ subtable_limit
-    → All (WroteWell meaning span wrote) (all_renewed ceiling (is_wrapped l) wrote fresh l.subtables)
+    → AllByRecursion (WroteWell meaning span wrote) (all_renewed ceiling (is_wrapped l) wrote fresh l.subtables)
     → GoodLookup meaning (split_lookup ceiling wrote fresh l)
 
 abbrev pub WrappingKeepsLookupsWellFormed : Type 0
@@ -106,16 +106,16 @@ abbrev pub AcceptedSplitsKeepLookupsWellFormed : Type 0
 AcceptedSplitsKeepLookupsWellFormed =
     (caps : Capacities) (meaning : List ℕ → Option Meant) (span : List ℕ → ℕ) (wrote : ℕ → List ℕ) (m : Model) (n ceiling : ℕ) (c : Changed)
     → split caps wrote m n ceiling ≡ Ok c
-    → All (GoodLookup meaning) m.lookups
-    → All (WroteWell meaning span wrote) (renewed_in ceiling wrote m.taken.vertices (nth m.lookups n))
-    → All (GoodLookup meaning) c.model.lookups
+    → AllByRecursion (GoodLookup meaning) m.lookups
+    → AllByRecursion (WroteWell meaning span wrote) (renewed_in ceiling wrote m.taken.vertices (nth m.lookups n))
+    → AllByRecursion (GoodLookup meaning) c.model.lookups
 
 abbrev pub AcceptedWrapsKeepLookupsWellFormed : Type 0
 AcceptedWrapsKeepLookupsWellFormed =
     (caps : Capacities) (meaning : List ℕ → Option Meant) (m : Model) (n : ℕ) (c : Changed)
     → wrap caps m n ≡ Ok c
-    → All (GoodLookup meaning) m.lookups
-    → All (GoodLookup meaning) c.model.lookups
+    → AllByRecursion (GoodLookup meaning) m.lookups
+    → AllByRecursion (GoodLookup meaning) c.model.lookups
 
 -- GLYPHS: a list that stands somewhere in another
 pub record PartOf (part all : List ℕ) : Type 0 where
@@ -127,8 +127,8 @@ pub record PartOf (part all : List ℕ) : Type 0 where
 abbrev pub EachCoverageHasAPartOfTheGlyphs : Type 0
 EachCoverageHasAPartOfTheGlyphs =
     (ceiling : ℕ) (wrapped : Bool) (wrote : ℕ → List ℕ) (fresh : ℕ) (s : Subtable)
-    → All GoodSet s.sets
-    → All (λ (t : Subtable). PartOf (glyphs_meant t) (glyphs_meant s)) (divided wrapped wrote fresh s (parts ceiling (entries s)))
+    → AllByRecursion GoodSet s.sets
+    → AllByRecursion (λ (t : Subtable). PartOf (glyphs_meant t) (glyphs_meant s)) (divided wrapped wrote fresh s (parts ceiling (entries s)))
 
 -- HOW MANY ARE NEW
 abbrev pub NewSubtablesAreCountedByCuts : Type 0

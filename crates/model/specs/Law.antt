@@ -1,6 +1,6 @@
 -- THE LAW: for every line of calls behind an accepted load, each answer agrees with the rule book.
 use Rattle.std.specs.Prelude.{◌≡◌, ℕ, suc, ◌≤◌, Bool, true, false, List, [], ◌∷◌, ◌++◌, length, Some, None, Ok, Err, Option, Result, ◌≢◌}
-use Rattle.std.specs.List.{AllByRecursion as All}
+use Rattle.std.specs.List.{AllByRecursion}
 use Rattle.refusals.specs.declared.Refusal.{Refusal}
 use Rattle.refusals.specs.declared.Refusal.TheVariants.{OffsetOverflow}
 use Rattle.coverage.specs.Meaning.{Meant}
@@ -67,7 +67,7 @@ Agrees m h (do_read w s p) a = SameRead (nth h.kept w) s p a
 
 -- no subtable is larger, its coverage apart, than its lookup's ceiling in the book
 abbrev pub Under : Page → Lookup → Type 0
-Under g l = (c : ℕ) → g.ceiling ≡ Some c → All (λ (s : Subtable). subtable_size s ≤ c) l.subtables
+Under g l = (c : ℕ) → g.ceiling ≡ Some c → AllByRecursion (λ (s : Subtable). subtable_size s ≤ c) l.subtables
 
 pub data Ceilings : List Page → List Lookup → Type 0 where
   none : Ceilings [] []
@@ -76,7 +76,7 @@ pub data Ceilings : List Page → List Lookup → Type 0 where
 module _ (caps : Capacities) (meaning : List ℕ → Option Meant) (span : List ℕ → ℕ) where
   -- WHAT THE CODEC WRITES: in an accepted split, for each subtable that comes from a cut, bytes that mean its glyphs
   abbrev pub Writes : (ℕ → List ℕ) → Model → Call → Type 0
-  Writes given m (do_split n c) = (ch : Changed) → split caps given m n c ≡ Ok ch → All (WroteWell meaning span given) (renewed_in c given m.taken.vertices (nth m.lookups n))
+  Writes given m (do_split n c) = (ch : Changed) → split caps given m n c ≡ Ok ch → AllByRecursion (WroteWell meaning span given) (renewed_in c given m.taken.vertices (nth m.lookups n))
   Writes given m (do_wrap n) = Unit {0}
   Writes given m (do_write n room) = Unit {0}
   Writes given m (do_shape n s p) = Unit {0}

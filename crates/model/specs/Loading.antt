@@ -1,6 +1,6 @@
 -- The outcome of load, for every list of words: the refusals in the order in which they are tested, and the model of what is accepted.
 use Rattle.std.specs.Prelude.{◌≡◌, ℕ, suc, ◌+◌, ◌<◌, ◌≤◌, cond, ◌⊎◌, List, [], ◌∷◌, ◌++◌, map, length, is_some, Some, None, Ok, Err, sum_by, count_by, Option, Result, ◌==◌, ◌≢◌, nat_eq, slice_index}
-use Rattle.std.specs.List.{ContainsAt as Has, AllByRecursion as All, range_with_len}
+use Rattle.std.specs.List.{ContainsAt as Has, AllByRecursion, range_with_len}
 use Rattle.std.specs.List.Sorted.{IsPermutation}
 use Rattle.refusals.specs.declared.Pool.{Pool}
 use Rattle.refusals.specs.declared.Refusal.{Refusal}
@@ -246,7 +246,7 @@ module _ (meaning : List ℕ → Option Meant) where
   -- THE MODEL: well-formed, its tables just those of the stream, its lookups the roots in order
   pub record Loaded (s : Stream) (m : Model) : Type 0 where
     pub good : Good meaning m
-    pub tables : All (Holds s) (model_walk m)
+    pub tables : AllByRecursion (Holds s) (model_walk m)
     pub roots : s.roots ≡ map (λ (l : Lookup). l.vertex) m.lookups
     pub taken : m.taken ≡ taken_by s
 

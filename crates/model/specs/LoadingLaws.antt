@@ -1,6 +1,6 @@
 -- Laws of load's outcome: well-formed models load from their words, and a list of words has one outcome.
 use Rattle.std.specs.Prelude.{◌≡◌, ℕ, ◌^◌, ◌<◌, ◌≤◌, List, [], ◌∷◌, map, Ok, Err, Option, Result}
-use Rattle.std.specs.List.{AllByRecursion as All}
+use Rattle.std.specs.List.{AllByRecursion}
 use Rattle.refusals.specs.declared.Refusal.{Refusal}
 use Rattle.refusals.specs.declared.Refusal.TheVariants.{BadLink, BadShape, BadEntry}
 use Rattle.words.specs.Grammar.{Stream, spelled}
@@ -40,5 +40,5 @@ module _ (meaning : List ℕ → Option Meant) where
   -- good lookups at the roots, all of whose tables are the stream's, are the whole stream if no vertex strays
   abbrev pub ReadingsLoad : Type 0
   ReadingsLoad =
-      (s : Stream) (m : Model) → All (GoodLookup meaning) m.lookups → All (Holds s) (model_walk m) → s.roots ≡ map (λ (l : Lookup). l.vertex) m.lookups
+      (s : Stream) (m : Model) → AllByRecursion (GoodLookup meaning) m.lookups → AllByRecursion (Holds s) (model_walk m) → s.roots ≡ map (λ (l : Lookup). l.vertex) m.lookups
       → Never (Strays s) → m.taken ≡ taken_by s → Loaded meaning s m

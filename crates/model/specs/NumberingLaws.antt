@@ -1,6 +1,6 @@
 -- What a split and a wrap take from the pools, and the numbers of the new vertices, in the subject's words.
 use Rattle.std.specs.Prelude.{◌≡◌, ℕ, zero, suc, ◌+◌, ◌*◌, ◌<◌, ◌≤◌, Bool, cond, List, [], ◌∷◌, ◌++◌, map, length, take, drop, Some, Ok, sum_by, filter, Option, nat_le}
-use Rattle.std.specs.List.{flat_map, AllByRecursion as All}
+use Rattle.std.specs.List.{flat_map, AllByRecursion}
 use Rattle.std.specs.Option.{option_to_list}
 use Rattle.coverage.specs.Meaning.{Meant}
 use Rattle.model.specs.Forest.{Ligature, LigatureSet, Subtable, Lookup, Model}
@@ -122,7 +122,7 @@ pub record Billed (m : Model) (n ceiling : ℕ) (l after : Lookup) (c : Changed)
   pub links : sum_by links_of (model_walk c.model) ≡ sum_by links_of (model_walk m) + (split_bill ceiling m l).links
   pub bytes : (split_bill ceiling m l).bytes
       ≡ sum_by (family_bytes m.taken.vertices (is_wrapped l)) (families ceiling l.subtables after.subtables) + lookup_bytes after (all_cuts ceiling l)
-  pub lie : All Short after.subtables → Lie (taken_tables m.taken.vertices ceiling l after) (taken_parts ceiling m.taken.vertices l)
+  pub lie : AllByRecursion Short after.subtables → Lie (taken_tables m.taken.vertices ceiling l after) (taken_parts ceiling m.taken.vertices l)
 
 abbrev pub BillsExactly : Type 0
 BillsExactly =
@@ -133,7 +133,7 @@ BillsExactly =
 -- the numbers of a model: each vertex in use stands at one place, and all are below the first free one; the pools are taken as far as the tables go
 pub record Tidy (m : Model) : Type 0 where
   pub distinct : Distinct (map vertex_of (model_walk m))
-  pub below : All (λ (p : Placed). p.vertex < m.taken.vertices) (model_walk m)
+  pub below : AllByRecursion (λ (p : Placed). p.vertex < m.taken.vertices) (model_walk m)
   pub vertices : length (model_walk m) ≡ m.taken.vertices
   pub links : sum_by links_of (model_walk m) ≡ m.taken.links
 
@@ -147,7 +147,7 @@ ligatures_of l = flat_map (λ (s : Subtable). flat_map (λ (t : LigatureSet). t.
 -- the tables have the vertices that they had, and the new ones; no ligature changes
 pub record Kept (m : Model) (n ceiling : ℕ) (l after : Lookup) (c : Changed) : Type 0 where
   pub tidy : Tidy c.model
-  pub room : All Short after.subtables → Roomy c.model
+  pub room : AllByRecursion Short after.subtables → Roomy c.model
   pub same : (v : ℕ) → count_of v (map vertex_of (model_walk c.model))
       ≡ count_of v (map vertex_of (model_walk m)) + count_of v (up_from m.taken.vertices (split_bill ceiling m l).vertices)
   pub ligatures : ligatures_of after ≡ ligatures_of l

@@ -1,6 +1,6 @@
 -- What shaping gives, in the words of the subject: the first rule, in order, with whose glyphs the string goes on at the place. And where a rule's answer points to.
 use Rattle.std.specs.Prelude.{◌≡◌, ℕ, ◌<◌, List, ◌∷◌, ◌++◌, length, Some, Ok}
-use Rattle.std.specs.List.{AllByRecursion as All}
+use Rattle.std.specs.List.{AllByRecursion}
 use Rattle.model.specs.Forest.{Ligature, LigatureSet, Subtable, Lookup, Model}
 use Rattle.model.specs.Rules.{Rule, unshaped, first_rule, shape_by, Sourced, rule_of, nth, rule}
 
@@ -13,12 +13,12 @@ pub record FirstToApply (rs : List Rule) (s : List ℕ) (r : Rule) : Type 0 wher
   pub before : List Rule
   pub behind : List Rule
   pub there : rs ≡ before ++ r ∷ behind
-  pub earlier : All (λ (q : Rule). Begins s q → ⊥) before
+  pub earlier : AllByRecursion (λ (q : Rule). Begins s q → ⊥) before
   pub applies : Begins s r
 
 pub record FirstRuleShapes : Type 0 where
   pub one : (rs : List Rule) (s : List ℕ) (r : Rule) → FirstToApply rs s r → first_rule rs s ≡ record { glyph = r.ligature; count = length r.glyphs }
-  pub none : (rs : List Rule) (s : List ℕ) → All (λ (q : Rule). Begins s q → ⊥) rs → first_rule rs s ≡ unshaped
+  pub none : (rs : List Rule) (s : List ℕ) → AllByRecursion (λ (q : Rule). Begins s q → ⊥) rs → first_rule rs s ≡ unshaped
   pub place : (rs : List Rule) (before s : List ℕ) → 0 < length s → shape_by rs (before ++ s) (length before) ≡ Ok (first_rule rs s)
 
 -- where the rule stands: a ligature of a set of the subtable with the index answered

@@ -1,6 +1,6 @@
 -- Well-formed models, under a codec's meaning: what load shows of a graph, and what every call keeps.
 use Rattle.std.specs.Prelude.{◌≡◌, ℕ, suc, ◌+◌, ◌*◌, ◌%◌, ◌<◌, ◌≤◌, true, false, cond, List, [], ◌∷◌, ◌++◌, map, length, take, is_some, IfSome, Some, sum_by, Option, ◌==◌}
-use Rattle.std.specs.List.{AllByRecursion as All}
+use Rattle.std.specs.List.{AllByRecursion}
 use Rattle.data_bytes.specs.BigEndian.{Bytes}
 use Rattle.coverage.specs.Glyphs.{GlyphList}
 use Rattle.coverage.specs.Meaning.{Meant}
@@ -15,13 +15,13 @@ Value v = v < 65536
 pub record GoodLigature (g : Ligature) : Type 0 where
   pub glyph : Value g.glyph
   pub count : Value (suc (length g.components))
-  pub components : All Value g.components
+  pub components : AllByRecursion Value g.components
 
 -- a set has ligatures
 pub record GoodSet (t : LigatureSet) : Type 0 where
   pub some : 0 < length t.ligatures
   pub count : Value (length t.ligatures)
-  pub ligatures : All GoodLigature t.ligatures
+  pub ligatures : AllByRecursion GoodLigature t.ligatures
 
 -- no number twice
 abbrev pub Distinct : List ℕ → Type 0
@@ -52,24 +52,24 @@ module _ (meaning : List ℕ → Option Meant) where
   -- the coverage's bytes mean the first glyphs of the sets, and end where that ends
   pub record GoodSubtable (s : Subtable) : Type 0 where
     pub some : 0 < length s.sets
-    pub sets : All GoodSet s.sets
+    pub sets : AllByRecursion GoodSet s.sets
     pub bytes : Bytes s.covering
     pub means : meaning s.covering ≡ Some (glyphs_meant s, length s.covering)
 
   -- extension tables just where the type is 7; a mark filtering set just where the flag asks for one
   pub record GoodLookup (l : Lookup) : Type 0 where
-    pub kind : cond (l.kind == 7) (All (λ (s : Subtable). is_some s.extension ≡ true) l.subtables) ((l.kind ≡ 4) × All (λ (s : Subtable). is_some s.extension ≡ false) l.subtables)
+    pub kind : cond (l.kind == 7) (AllByRecursion (λ (s : Subtable). is_some s.extension ≡ true) l.subtables) ((l.kind ≡ 4) × AllByRecursion (λ (s : Subtable). is_some s.extension ≡ false) l.subtables)
     pub flag : Value l.flag
     pub asks : is_some l.mark ≡ has_mark l.flag
     pub mark : IfSome l.mark Value
     pub count : length l.subtables ≤ subtable_limit
-    pub subtables : All GoodSubtable l.subtables
+    pub subtables : AllByRecursion GoodSubtable l.subtables
 
   -- each vertex in use stands at one place; the pools are taken as far as the tables go, bytes perhaps further
   pub record Good (m : Model) : Type 0 where
-    pub lookups : All GoodLookup m.lookups
+    pub lookups : AllByRecursion GoodLookup m.lookups
     pub distinct : Distinct (map vertex_of (model_walk m))
-    pub below : All (λ (p : Placed). p.vertex < m.taken.vertices) (model_walk m)
+    pub below : AllByRecursion (λ (p : Placed). p.vertex < m.taken.vertices) (model_walk m)
     pub vertices : length (model_walk m) ≡ m.taken.vertices
     pub links : sum_by links_of (model_walk m) ≡ m.taken.links
     pub room : sum_by (λ (p : Placed). length p.table.bytes) (model_walk m) ≤ m.taken.bytes

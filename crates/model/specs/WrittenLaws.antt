@@ -1,6 +1,6 @@
 -- The laws of written lookups: what reading them gives, and where no offset overflows.
 use Rattle.std.specs.Prelude.{◌≡◌, ℕ, ◌<◌, ◌≤◌, false, cond, List, [], ◌∷◌, map, length, Some, Ok, Err, Option, ◌≢◌, nat_le}
-use Rattle.std.specs.List.{AllByRecursion as All}
+use Rattle.std.specs.List.{AllByRecursion}
 use Rattle.refusals.specs.declared.Refusal.TheVariants.{ShortBuffer, Unreadable}
 use Rattle.data_bytes.specs.BigEndian.{Bytes}
 use Rattle.coverage.specs.Meaning.{Meant}
@@ -16,7 +16,7 @@ use Rattle.model.specs.Reading.{rules_in, read}
 -- a lookup of type 7, and none of its subtables larger than so much
 pub record Extended (size : ℕ) (l : Lookup) : Type 0 where
   pub kind : l.kind ≡ 7
-  pub sizes : All (λ (s : Subtable). subtable_size s ≤ size) l.subtables
+  pub sizes : AllByRecursion (λ (s : Subtable). subtable_size s ≤ size) l.subtables
 
 module _ (meaning : List ℕ → Option Meant) where
   -- each table of the lookup has a vertex of its own

@@ -1,6 +1,6 @@
 -- The laws of keyed rows: each is a short induction over the rows.
 use Rattle.std.proofs.Common.{◌≡◌, ℕ, zero, suc, ◌<◌, false, cond, List, [], ◌∷◌, length, get_or, Some, None, sym, refl, ap, ◌∙◌, subst, inl, inr, ⊎_elim, add-one, arith}
-use Rattle.std.specs.List.{AllByRecursion as All}
+use Rattle.std.specs.List.{AllByRecursion}
 use Rattle.std.proofs.ByRecursion.{All-get_or, All-weaker, has_append_right}
 use Rattle.std.proofs.lemmas.Bool.{cases_Bool}
 use Rattle.rows.specs.declared.RowKey.{RowKey}
@@ -10,11 +10,11 @@ use Rattle.rows.specs.Laws.{RisingPairs, RisingFromNeighbours, LookUpSound, Look
 use Rattle.rows.proofs.Order.{before_trans, cases_key, not_back, not_before_self, same_from_eq, eq_from_same, apart_before, apart_after, apart}
 
 -- what stands before a row stands before all that follow it
-pub behind : {X : Type 0} (key : X → RowKey) (k : RowKey) (x : X) (xs : List X) → Before k (key x) → All (λ y. Before (key x) (key y)) xs → All (λ y. Before k (key y)) xs
+pub behind : {X : Type 0} (key : X → RowKey) (k : RowKey) (x : X) (xs : List X) → Before k (key x) → AllByRecursion (λ y. Before (key x) (key y)) xs → AllByRecursion (λ y. Before k (key y)) xs
 behind key k x xs h = All-weaker (λ y. Before (key x) (key y)) (λ y. Before k (key y)) (λ y. before_trans k (key x) (key y) h) xs
 
 -- a key before all rows is the key of none
-pub none_behind : {X : Type 0} (key : X → RowKey) (k : RowKey) (xs : List X) → All (λ x. Before k (key x)) xs → row_of key k xs ≡ None
+pub none_behind : {X : Type 0} (key : X → RowKey) (k : RowKey) (xs : List X) → AllByRecursion (λ x. Before k (key x)) xs → row_of key k xs ≡ None
 none_behind key k [] a = refl
 none_behind key k (x ∷ xs) a = let s = apart_after (key x) k a.0 in rw s (none_behind key k xs a.1)
 
@@ -78,7 +78,7 @@ pub gone_after_remove : {X : Type 0} (key : X → RowKey) → GoneAfterRemove ke
 gone_after_remove key k [] up = refl
 gone_after_remove key k (x ∷ xs) up =
     elim (cases_Bool (same (key x) k)) [
-      | inl s ↦ rw s (none_behind key k xs (subst (λ t. All (λ y. Before t (key y)) xs) (eq_from_same (key x) k s) up.0))
+      | inl s ↦ rw s (none_behind key k xs (subst (λ t. AllByRecursion (λ y. Before t (key y)) xs) (eq_from_same (key x) k s) up.0))
       | inr s ↦ rw (s, s) (gone_after_remove key k xs up.1)
     ]
 
@@ -91,7 +91,7 @@ others_after_remove key k (x ∷ xs) l n =
     (cases_Bool (same (key x) k))
 
 -- what holds of the row and of all rows holds of all rows with it
-pub all_with_row : {X : Type 0} (key : X → RowKey) (P : X → Type 0) (r : X) (xs : List X) → P r → All P xs → All P (with_row key r xs)
+pub all_with_row : {X : Type 0} (key : X → RowKey) (P : X → Type 0) (r : X) (xs : List X) → P r → AllByRecursion P xs → AllByRecursion P (with_row key r xs)
 all_with_row key P r [] p a = (p, tt)
 all_with_row key P r (x ∷ xs) p a =
     elim (cases_Bool (precedes (key x) (key r))) [
@@ -99,7 +99,7 @@ all_with_row key P r (x ∷ xs) p a =
       | inr b ↦ elim (cases_Bool (same (key x) (key r))) [ inl s ↦ rw (b, s) (p, a.1) | inr s ↦ rw (b, s) (p, a) ]
     ]
 
-pub all_without_row : {X : Type 0} (key : X → RowKey) (P : X → Type 0) (k : RowKey) (xs : List X) → All P xs → All P (without_row key k xs)
+pub all_without_row : {X : Type 0} (key : X → RowKey) (P : X → Type 0) (k : RowKey) (xs : List X) → AllByRecursion P xs → AllByRecursion P (without_row key k xs)
 all_without_row key P k [] a = tt
 all_without_row key P k (x ∷ xs) a =
     ⊎_elim (λ s. rw s a.1) (λ s. rw s (a.0, all_without_row key P k xs a.1)) (cases_Bool (same (key x) k))
@@ -109,7 +109,7 @@ rising_after_put key r [] up = (tt, tt)
 rising_after_put key r (x ∷ xs) up =
     ⊎_elim
     (λ e. let b = not_before_self (key x) (key r) e in let t = same_from_eq (key x) (key r) e in
-    rw (b, t) (subst (λ u. All (λ y. Before u (key y)) xs) e up.0, up.1))
+    rw (b, t) (subst (λ u. AllByRecursion (λ y. Before u (key y)) xs) e up.0, up.1))
     (⊎_elim
     (λ b. rw b (all_with_row key (λ y. Before (key x) (key y)) r xs b up.0, rising_after_put key r xs up.1))
     (λ h. let b = not_back (key r) (key x) h in let t = apart_after (key x) (key r) h in
@@ -141,7 +141,7 @@ count_after_remove key k (x ∷ xs) =
     ⊎_elim (λ s. rw s (omega arith)) (λ s. let h = count_after_remove key k xs in rw s (omega arith)) (cases_Bool (same (key x) k))
 
 -- a row is not found among rows that all stand behind it
-never : {X : Type 0} (key : X → RowKey) (x : X) (xs ys : List X) → All (λ y. Before (key x) (key y)) ys → row_of key (key x) (x ∷ xs) ≡ row_of key (key x) ys → ⊥
+never : {X : Type 0} (key : X → RowKey) (x : X) (xs ys : List X) → AllByRecursion (λ y. Before (key x) (key y)) ys → row_of key (key x) (x ∷ xs) ≡ row_of key (key x) ys → ⊥
 never {X} key x xs ys a e =
     let s = same_from_eq (key x) (key x) refl in
     let e' : Some x ≡ row_of key (key x) ys = rw s at e in
@@ -153,8 +153,8 @@ tails : {X : Type 0} (key : X → RowKey) (x : X) (xs : List X) (y : X) (ys : Li
 tails key x xs y ys e up vp h k =
     ⊎_elim
     (λ s. let q = eq_from_same (key x) k s in
-    let a = none_behind key k xs (subst (λ u. All (λ z. Before u (key z)) xs) q up.0) in
-    let b = none_behind key k ys (subst (λ u. All (λ z. Before u (key z)) ys) (sym e ∙ q) vp.0) in
+    let a = none_behind key k xs (subst (λ u. AllByRecursion (λ z. Before u (key z)) xs) q up.0) in
+    let b = none_behind key k ys (subst (λ u. AllByRecursion (λ z. Before u (key z)) ys) (sym e ∙ q) vp.0) in
     a ∙ sym b)
     (λ s. let t : same (key y) k ≡ false = subst (λ u. same u k ≡ false) e s in rw (s, t) at (h k))
     (cases_Bool (same (key x) k))

@@ -1,13 +1,13 @@
 -- Lists of rows in rising order of their keys: look-up, the rows with one more, the rows without one.
 use Rattle.std.specs.Prelude.{◌≡◌, ℕ, suc, ◌+◌, ◌<◌, ◌≤◌, cond, ◌⊎◌, List, [], ◌∷◌, ◌++◌, length, take, drop, Some, None, Option, Result, MatchResult, slice_set}
-use Rattle.std.specs.List.{HoldsAt, ContainsAt as Has, insert, remove, AllByRecursion as All}
+use Rattle.std.specs.List.{HoldsAt, ContainsAt as Has, insert, remove, AllByRecursion}
 use Rattle.rows.specs.declared.RowKey.{RowKey}
 use Rattle.rows.specs.Keys.{precedes, same, Before}
 
 -- each row stands before all that follow it
 abbrev pub Rising : {X : Type 0} → (X → RowKey) → List X → Type 0
 Rising key [] = Unit {0}
-Rising key (x ∷ xs) = All (λ y. Before (key x) (key y)) xs × Rising key xs
+Rising key (x ∷ xs) = AllByRecursion (λ y. Before (key x) (key y)) xs × Rising key xs
 
 -- the row with the key k
 abbrev pub row_of : {X : Type 0} → (X → RowKey) → RowKey → List X → Option X

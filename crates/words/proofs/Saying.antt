@@ -1,6 +1,6 @@
 -- A word says exactly what it is spelled from.
 use Rattle.std.proofs.Common.{◌≡◌, ℕ, ◌/◌, ◌%◌, ◌^◌, ◌<◌, ◌≤◌, eqb, ltb, List, [], ◌∷◌, map, Some, None, Option, sym, refl, ap, ◌∙◌, ⊎_elim, arith, lit≤}
-use Rattle.std.specs.List.{AllByRecursion as All}
+use Rattle.std.specs.List.{AllByRecursion}
 use Rattle.std.proofs.lemmas.Bool.{cases_Bool, eqb-true, ltb-true, lt-ltb, cond-true, cond-false}
 use Rattle.words.specs.declared.WordKind.{WordKind}
 use Rattle.words.specs.declared.WordKind.TheVariants.{Table, Value, Link2, Link4, Target, Virtual, Root, Count}
@@ -92,7 +92,7 @@ all_say (w ∷ ws) (t ∷ ts) e =
     let b = all_say ws ts r in
     rw (a, b)
 
-pub all_said : (ts : List Token) → All Fits ts → map token_of (map word_of ts) ≡ map Some ts
+pub all_said : (ts : List Token) → AllByRecursion Fits ts → map token_of (map word_of ts) ≡ map Some ts
 all_said [] f = refl
 all_said (t ∷ ts) f =
     let a = said t f.0 in

@@ -1,6 +1,6 @@
 -- What one word does to what is still to come: a word that fits can be put in front of it, and what is to come begins with a word that fits.
 use Rattle.std.proofs.Common.{◌≡◌, ℕ, zero, suc, ◌+◌, ◌*◌, ◌/◌, ◌%◌, ◌^◌, ◌<◌, Bool, true, eqb, ltb, List, [], ◌∷◌, ◌++◌, map, length, drop, Some, None, Option, sym, refl, ap, ◌∙◌, subst, append_assoc, add-zero, arith}
-use Rattle.std.specs.List.{flat_map, AllByRecursion as All}
+use Rattle.std.specs.List.{flat_map, AllByRecursion}
 use Rattle.std.proofs.lemmas.List.{nil_from_length}
 use Rattle.std.proofs.lemmas.Bool.{eqb-true, eq-eqb, ltb-true, lt-ltb, cond_both, cond-true, and_from}
 use Rattle.words.specs.declared.WordKind.{WordKind}
@@ -36,13 +36,13 @@ Shape Closed r = r ≡ nothing
 
 pub record Good (p : Place) (n : ℕ) (r : Rest) : Type 0 where
   pub shape : Shape p r
-  pub rooted : All (λ x. x < n + length r.tables) r.roots
+  pub rooted : AllByRecursion (λ x. x < n + length r.tables) r.roots
 
 -- each number has room in its word
 pub record Sizes (r : Rest) : Type 0 where
-  pub values : All (λ v. v < 2 ^ 16) r.values
-  pub links : All FineLink r.links
-  pub tables : All FineTable r.tables
+  pub values : AllByRecursion (λ v. v < 2 ^ 16) r.values
+  pub links : AllByRecursion FineLink r.links
+  pub tables : AllByRecursion FineTable r.tables
 
 -- the position of a link was a number of the word before
 abbrev pub Sized : Place → Rest → Type 0
@@ -80,11 +80,11 @@ body_table n m vs ls ts rs e =
     let last = map (say Root) rs ++ say Count (n + 1 + length ts) ∷ [] in
     rw (e, c) (ap (λ x. say Table m ∷ x) (regroup (map (say Value) vs) (flat_map link_tokens ls) (flat_map table_tokens ts) last))
 
-all_shift : (n : ℕ) (l : ℕ) (rs : List ℕ) → All (λ x. x < n + 1 + l) rs → All (λ x. x < n + suc l) rs
+all_shift : (n : ℕ) (l : ℕ) (rs : List ℕ) → AllByRecursion (λ x. x < n + 1 + l) rs → AllByRecursion (λ x. x < n + suc l) rs
 all_shift n l [] a = tt
 all_shift n l (r ∷ rs) a = (omega (arith, a.0), all_shift n l rs a.1)
 
-all_back : (n : ℕ) (l : ℕ) (rs : List ℕ) → All (λ x. x < n + suc l) rs → All (λ x. x < n + 1 + l) rs
+all_back : (n : ℕ) (l : ℕ) (rs : List ℕ) → AllByRecursion (λ x. x < n + suc l) rs → AllByRecursion (λ x. x < n + 1 + l) rs
 all_back n l [] a = tt
 all_back n l (r ∷ rs) a = (omega (arith, a.0), all_back n l rs a.1)
 
@@ -283,7 +283,7 @@ so : (b : Bool) (q : Place) → b ≡ true → if_so b q ≡ Some q
 so b q e = cond-true b (Some q) None e
 
 module _ (n : ℕ) (p : Place) (plain : Plain p n) (cl : closable p ≡ true) where
-  ending_move : (rs : List ℕ) → All (λ x. x < n + 0) rs → Move p n (rest [] [] [] rs)
+  ending_move : (rs : List ℕ) → AllByRecursion (λ x. x < n + 0) rs → Move p n (rest [] [] [] rs)
   ending_move [] a =
       record {
         kind = Count;
@@ -307,7 +307,7 @@ module _ (n : ℕ) (p : Place) (plain : Plain p n) (cl : closable p ≡ true) wh
         spelled = plain.render_is _;
       }
 
-  opening_move : openable p ≡ true → (ts : List StreamTable) (rs : List ℕ) → All (λ x. x < n + length ts) rs → Move p n (rest [] [] ts rs)
+  opening_move : openable p ≡ true → (ts : List StreamTable) (rs : List ℕ) → AllByRecursion (λ x. x < n + length ts) rs → Move p n (rest [] [] ts rs)
   opening_move op [] rs a = ending_move rs a
   opening_move op (t ∷ ts) rs a =
       let v = t.values in
@@ -323,7 +323,7 @@ module _ (n : ℕ) (p : Place) (plain : Plain p n) (cl : closable p ≡ true) wh
         spelled = plain.render_is _ ∙ body_table n (2 * length v) v t.links ts rs refl;
       }
 
-linking_move : (w : Width) (p n t : ℕ) (ls : List StreamLink) (ts : List StreamTable) (rs : List ℕ) → All (λ x. x < n + length ts) rs → Move (Linking w p) n (rest [] (real w p t ∷ ls) ts rs)
+linking_move : (w : Width) (p n t : ℕ) (ls : List StreamLink) (ts : List StreamTable) (rs : List ℕ) → AllByRecursion (λ x. x < n + length ts) rs → Move (Linking w p) n (rest [] (real w p t ∷ ls) ts rs)
 linking_move w p n t ls ts rs a =
     record {
       kind = Target;

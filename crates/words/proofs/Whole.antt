@@ -1,6 +1,6 @@
 -- Reading whole lists of words: what is accepted, what is refused, and where.
 use Rattle.std.proofs.Common.{◌≡◌, ℕ, zero, suc, ◌+◌, ◌^◌, ◌<◌, ◌≤◌, ◌⊎◌, List, [], ◌∷◌, ◌++◌, map, length, take, drop, replicate, Some, None, Ok, Err, Option, Result, sym, refl, ap, ◌∙◌, subst, inl, inr, ⊎_elim, zero-add, arith}
-use Rattle.std.specs.List.{flat_map, AllByRecursion as All}
+use Rattle.std.specs.List.{flat_map, AllByRecursion}
 use Rattle.std.proofs.lemmas.List.{take-append-drop, length-take-le, length-replicate}
 use Rattle.std.proofs.ByRecursion.{All-append, All-weaker, All-map}
 use Rattle.std.proofs.lemmas.Bool.{cases_lt}
@@ -39,7 +39,7 @@ abbrev pub Told : List ℕ → Place → ℕ → Result Rest ℕ → Type 0
 Told ws p n (Ok r) = Accepted ws p n r
 Told ws p n (Err i) = Refused ws p n i
 
-zeros : (k : ℕ) → All (λ v. v < 2 ^ 16) (replicate k 0)
+zeros : (k : ℕ) → AllByRecursion (λ v. v < 2 ^ 16) (replicate k 0)
 zeros zero = tt
 zeros (suc k) = (omega arith, zeros k)
 
@@ -204,20 +204,20 @@ start_fine : (r : Rest) → Good Start 0 r → Sizes r → Uncounted (stream_in 
 start_fine r g s = record { tables = s.tables; roots = All-weaker (λ x. x < 0 + length r.tables) (λ x. x < length r.tables) (λ x h. omega arith) r.roots g.rooted }
 
 -- each word of a fine stream has room for its number
-fit_links : (ls : List StreamLink) → All FineLink ls → All Fits (flat_map link_tokens ls)
+fit_links : (ls : List StreamLink) → AllByRecursion FineLink ls → AllByRecursion Fits (flat_map link_tokens ls)
 fit_links [] f = tt
 fit_links (real Two p t ∷ ls) f = (f.0.0, (f.0.1, fit_links ls f.1))
 fit_links (real Four p t ∷ ls) f = (f.0.0, (f.0.1, fit_links ls f.1))
 fit_links (virtual t ∷ ls) f = (f.0, fit_links ls f.1)
 
-fit_tables : (ts : List StreamTable) → All FineTable ts → All Fits (flat_map table_tokens ts)
+fit_tables : (ts : List StreamTable) → AllByRecursion FineTable ts → AllByRecursion Fits (flat_map table_tokens ts)
 fit_tables [] f = tt
 fit_tables (t ∷ ts) f =
     All-append Fits (table_tokens t) (flat_map table_tokens ts)
     (f.0.size, All-append Fits (map (say Value) t.values) (flat_map link_tokens t.links) (All-map Fits (say Value) t.values f.0.values) (fit_links t.links f.0.links))
     (fit_tables ts f.1)
 
-fit_tokens : (s : Stream) → Fine s → All Fits (tokens s)
+fit_tokens : (s : Stream) → Fine s → AllByRecursion Fits (tokens s)
 fit_tokens s f =
     let u = f.uncounted in
     let l = f.count in

@@ -1,6 +1,6 @@
 -- What a stream says, how it is spelled in words, and which words are the front of a stream.
 use Rattle.std.specs.Prelude.{◌≡◌, ℕ, ◌+◌, ◌*◌, ◌^◌, ◌<◌, ◌≤◌, List, [], ◌∷◌, ◌++◌, map, length, take, Some}
-use Rattle.std.specs.List.{flat_map, AllByRecursion as All}
+use Rattle.std.specs.List.{flat_map, AllByRecursion}
 use Rattle.words.specs.declared.WordKind.{WordKind}
 use Rattle.words.specs.declared.WordKind.TheVariants.{Table, Value, Link2, Link4, Target, Virtual, Root, Count}
 use Rattle.words.specs.declared.Width.{Width}
@@ -50,14 +50,14 @@ FineLink (real w p t) = (p < 2 ^ 24) × (t < 2 ^ 24)
 FineLink (virtual t) = t < 2 ^ 24
 
 pub record FineTable (t : StreamTable) : Type 0 where
-  pub values : All (λ v. v < 2 ^ 16) t.values
+  pub values : AllByRecursion (λ v. v < 2 ^ 16) t.values
   pub size : 2 * length t.values < 2 ^ 24
-  pub links : All FineLink t.links
+  pub links : AllByRecursion FineLink t.links
 
 -- all but the count: there may be more tables than a word can say
 pub record Uncounted (s : Stream) : Type 0 where
-  pub tables : All FineTable s.tables
-  pub roots : All (λ r. r < length s.tables) s.roots
+  pub tables : AllByRecursion FineTable s.tables
+  pub roots : AllByRecursion (λ r. r < length s.tables) s.roots
 
 pub record Fine (s : Stream) : Type 0 where
   pub uncounted : Uncounted s

@@ -1,5 +1,5 @@
 use Rattle.std.proofs.Common.{◌≡◌, ℕ, suc, ◌*◌, List, [], ◌∷◌, map, length, Some, sum_by, refl, ap, arith}
-use Rattle.std.specs.List.{AllByRecursion as All}
+use Rattle.std.specs.List.{AllByRecursion}
 use Rattle.std.proofs.lemmas.List.Sums.{sum_by-cons}
 use Rattle.model.specs.Forest.{Subtable}
 use Rattle.model.specs.Splitting.{Part, part, wrap_parts, extended}
@@ -16,7 +16,7 @@ sizes fresh (s ∷ ss) =
     let c = sum_by-cons (λ (p : Part). p.reserved) (part fresh 8) (wrap_parts (suc fresh) ss) in
     omega arith
 
-eights : (fresh : ℕ) (ss : List Subtable) → All (λ (p : Part). p.reserved ≡ 8) (wrap_parts fresh ss)
+eights : (fresh : ℕ) (ss : List Subtable) → AllByRecursion (λ (p : Part). p.reserved ≡ 8) (wrap_parts fresh ss)
 eights fresh [] = tt
 eights fresh (s ∷ ss) = (refl, eights (suc fresh) ss)
 
