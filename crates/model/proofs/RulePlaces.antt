@@ -12,15 +12,15 @@ record InSets (n : ℕ) (ts : List LigatureSet) (x : Sourced) : Type 0 where
   set : LigatureSet
   set_at : (i : ℕ) × (nth ts i ≡ Some set)
   ligature : Ligature
-  ligature_at_lem : (j : ℕ) × (nth set.ligatures j ≡ Some ligature)
+  ligature_at : (j : ℕ) × (nth set.ligatures j ≡ Some ligature)
   is : x ≡ sourced n set.first ligature
 
 in_sets : (n : ℕ) (ts : List LigatureSet) (k : ℕ) (x : Sourced) → nth (flat_map (sourced_set n) ts) k ≡ Some x → InSets n ts x
 in_sets n [] k x e = nowhere x e
 in_sets n (t ∷ ts) k x e =
     ⊎_elim
-    (λ h. let m = in_map (sourced n t.first) t.ligatures h.0 x h.1 in record { set = t; set_at = (0, refl); ligature = m.0; ligature_at_lem = (h.0, m.1); is = m.2 })
-    (λ h. let r = in_sets n ts h.0 x h.1 in record { set = r.set; set_at = (suc r.set_at.0, r.set_at.1); ligature = r.ligature; ligature_at_lem = r.ligature_at_lem; is = r.is })
+    (λ h. let m = in_map (sourced n t.first) t.ligatures h.0 x h.1 in record { set = t; set_at = (0, refl); ligature = m.0; ligature_at = (h.0, m.1); is = m.2 })
+    (λ h. let r = in_sets n ts h.0 x h.1 in record { set = r.set; set_at = (suc r.set_at.0, r.set_at.1); ligature = r.ligature; ligature_at = r.ligature_at; is = r.is })
     (in_either (sourced_set n t) (flat_map (sourced_set n) ts) k x e)
 
 -- in one of some subtables, counted from n
@@ -55,7 +55,7 @@ rules_stand_where_told_lem m n k l x is e =
       set = q.set;
       set_at = q.set_at;
       ligature = q.ligature;
-      ligature_at_lem = q.ligature_at_lem;
+      ligature_at = q.ligature_at;
       vertex = ap (λ (z : Sourced). z.vertex) q.is;
       rule = ap (λ (z : Sourced). z.rule) q.is;
     }

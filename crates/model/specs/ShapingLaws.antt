@@ -28,7 +28,7 @@ pub record StandsThere (l : Lookup) (x : Sourced) : Type 0 where
   pub set : LigatureSet
   pub set_at : (i : ℕ) × (nth subtable.sets i ≡ Some set)
   pub ligature : Ligature
-  pub ligature_at_lem : (j : ℕ) × (nth set.ligatures j ≡ Some ligature)
+  pub ligature_at : (j : ℕ) × (nth set.ligatures j ≡ Some ligature)
   pub vertex : x.vertex ≡ ligature.vertex
   pub rule : x.rule ≡ rule_of set.first ligature
 

@@ -231,8 +231,8 @@ pub record Capacities : Type 0 where
 
 -- what counts of the rows and bytes that a caller lends; of link rows and parent rows the shorter
 abbrev pub lent : ℕ → ℕ → ℕ → ℕ → Capacities
-lent vertexRows linkRows parent_rows bytes =
-    record { vertices = min vertexRows 800000; links = min (min linkRows parent_rows) 2000000; bytes = min bytes 67108864 }
+lent vertex_rows link_rows parent_rows bytes =
+    record { vertices = min vertex_rows 800000; links = min (min link_rows parent_rows) 2000000; bytes = min bytes 67108864 }
 
 -- the first pool that is too small
 abbrev pub room_for : Capacities → Taken → Bill → Option Pool
