@@ -8,7 +8,7 @@ use Rattle.coverage.specs.Meaning.{Meant}
 use Rattle.model.specs.Forest.{Ligature, LigatureSet, Subtable}
 use Rattle.model.specs.Cutting.{Entry, entries_from, sets_from, entries, same_set, parts}
 use Rattle.model.specs.Splitting.{Group, alone, with_first, join_group, groups, sets_of, divided}
-use Rattle.model.specs.Sound.{GoodSet, GoodSubtable, Lawful, glyphs_meant}
+use Rattle.model.specs.Sound.{GoodSet, GoodSubtable, Lawful, glyphs_of}
 use Rattle.model.specs.KeepingLaws.{PartOf, EachCoverageHasAPartOfTheGlyphs}
 use Rattle.model.proofs.Lists.{all_back, all_both}
 use Rattle.model.proofs.KeepTelling.{first_of, first_of_entries}
@@ -134,15 +134,15 @@ sets_firsts i (t ∷ ts) h =
     ∙ ap (λ u. t.first ∷ u) (sets_firsts (suc i) ts h.1)
 
 -- THE THEOREM
-pub divided_glyphs : (ceiling : ℕ) (wrapped : Bool) (wrote : ℕ → List ℕ) (fresh : ℕ) (s : Subtable) → AllByRecursion (λ (t : LigatureSet). 0 < length t.ligatures) s.sets → AllByRecursion (λ (t : Subtable). PartOf (glyphs_meant t) (glyphs_meant s)) (divided wrapped wrote fresh s (parts ceiling (entries s)))
+pub divided_glyphs : (ceiling : ℕ) (wrapped : Bool) (wrote : ℕ → List ℕ) (fresh : ℕ) (s : Subtable) → AllByRecursion (λ (t : LigatureSet). 0 < length t.ligatures) s.sets → AllByRecursion (λ (t : Subtable). PartOf (glyphs_of t) (glyphs_of s)) (divided wrapped wrote fresh s (parts ceiling (entries s)))
 divided_glyphs c wrapped wrote fresh s full =
     let w = joined_parts c (entries s) in
-    let whole_is : firsts (groups (whole (parts c (entries s)))) ≡ glyphs_meant s = ap (λ (es : List Entry). firsts (groups es)) w ∙ sets_firsts 0 s.sets full in
+    let whole_is : firsts (groups (whole (parts c (entries s)))) ≡ glyphs_of s = ap (λ (es : List Entry). firsts (groups es)) w ∙ sets_firsts 0 s.sets full in
     let known = subst (λ (es : List Entry). AllByRecursion (λ (e : Entry). e.first ≡ first_of s e.set) es) (sym w) (first_of_entries s) in
-    divided-all (λ (ts : List LigatureSet). PartOf (map (λ (t : LigatureSet). t.first) ts) (glyphs_meant s)) (λ (p : List Entry). PartOf (firsts (groups p)) (glyphs_meant s))
-    (λ own fresh p k. subst (λ (gs : List ℕ). PartOf gs (glyphs_meant s)) (sym (glyphs_of_sets own fresh (groups p))) k)
+    divided-all (λ (ts : List LigatureSet). PartOf (map (λ (t : LigatureSet). t.first) ts) (glyphs_of s)) (λ (p : List Entry). PartOf (firsts (groups p)) (glyphs_of s))
+    (λ own fresh p k. subst (λ (gs : List ℕ). PartOf gs (glyphs_of s)) (sym (glyphs_of_sets own fresh (groups p))) k)
     wrapped wrote fresh s (parts c (entries s)) (parts_some c (entries s)) w
-    (λ _. record { before = []; behind = []; is = sym (append-nil (glyphs_meant s)) })
+    (λ _. record { before = []; behind = []; is = sym (append-nil (glyphs_of s)) })
     (subst (λ (gs : List ℕ). AllByRecursion (λ (p : List Entry). PartOf (firsts (groups p)) gs) (parts c (entries s))) whole_is (parts_part (first_of s) (parts c (entries s)) known))
 
 pub sets_full : (ts : List LigatureSet) → AllByRecursion GoodSet ts → AllByRecursion (λ (t : LigatureSet). 0 < length t.ligatures) ts
@@ -152,15 +152,15 @@ pub each_coverage_has_a_part_of_the_glyphs_lem : EachCoverageHasAPartOfTheGlyphs
 each_coverage_has_a_part_of_the_glyphs_lem ceiling wrapped wrote fresh s good = divided_glyphs ceiling wrapped wrote fresh s (sets_full s.sets good)
 
 -- so a lawful codec admits them
-pub divided_admitted : (admits : List ℕ → Type 0) (meaning : List ℕ → Option Meant) (span : List ℕ → ℕ) → Lawful admits meaning span → (ceiling : ℕ) (wrapped : Bool) (wrote : ℕ → List ℕ) (fresh : ℕ) (s : Subtable) → GoodSubtable meaning s → AllByRecursion (Fits ceiling) (entries s) → AllByRecursion (λ (t : Subtable). admits (glyphs_meant t)) (divided wrapped wrote fresh s (parts ceiling (entries s)))
+pub divided_admitted : (admits : List ℕ → Type 0) (meaning : List ℕ → Option Meant) (span : List ℕ → ℕ) → Lawful admits meaning span → (ceiling : ℕ) (wrapped : Bool) (wrote : ℕ → List ℕ) (fresh : ℕ) (s : Subtable) → GoodSubtable meaning s → AllByRecursion (Fits ceiling) (entries s) → AllByRecursion (λ (t : Subtable). admits (glyphs_of t)) (divided wrapped wrote fresh s (parts ceiling (entries s)))
 divided_admitted admits meaning span law c wrapped wrote fresh s good f =
-    let adm = law.sound s.covering (glyphs_meant s) (length s.covering) good.means in
-    All-weaker (λ (t : Subtable). GoodSets t.sets × PartOf (glyphs_meant t) (glyphs_meant s)) (λ (t : Subtable). admits (glyphs_meant t))
+    let adm = law.sound s.covering (glyphs_of s) (length s.covering) good.means in
+    All-weaker (λ (t : Subtable). GoodSets t.sets × PartOf (glyphs_of t) (glyphs_of s)) (λ (t : Subtable). admits (glyphs_of t))
     (λ t k.
     let n = length-map t.sets (λ (u : LigatureSet). u.first) in
     let some = k.0.0 in
-    law.parts k.1.before (glyphs_meant t) k.1.behind (omega arith) (subst (λ (gs : List ℕ). admits gs) k.1.is adm))
+    law.parts k.1.before (glyphs_of t) k.1.behind (omega arith) (subst (λ (gs : List ℕ). admits gs) k.1.is adm))
     (divided wrapped wrote fresh s (parts c (entries s)))
-    (all_both (λ (t : Subtable). GoodSets t.sets) (λ (t : Subtable). PartOf (glyphs_meant t) (glyphs_meant s)) (divided wrapped wrote fresh s (parts c (entries s)))
+    (all_both (λ (t : Subtable). GoodSets t.sets) (λ (t : Subtable). PartOf (glyphs_of t) (glyphs_of s)) (divided wrapped wrote fresh s (parts c (entries s)))
     (divided_sets_good c wrapped wrote fresh s (good.some, good.sets) f)
     (divided_glyphs c wrapped wrote fresh s (sets_full s.sets good.sets)))

@@ -9,7 +9,7 @@ use Rattle.coverage.specs.Meaning.{Meant}
 use Rattle.model.specs.Forest.{Ligature, LigatureSet, Subtable, Lookup, Model}
 use Rattle.model.specs.Cutting.{Entry, entries_from, sets_from, entries, parts}
 use Rattle.model.specs.Splitting.{Capacities, Group, groups, sets_of, new_sets, comes_here, pieces, after_pieces, extended, divided, after_divided, split_all, split_lookup, is_wrapped, wrap_lookup, renewed, all_renewed, renewed_in}
-use Rattle.model.specs.Sound.{GoodLigature, GoodSet, GoodSubtable, GoodLookup, glyphs_meant, WroteWell}
+use Rattle.model.specs.Sound.{GoodLigature, GoodSet, GoodSubtable, GoodLookup, glyphs_of, WroteWell}
 use Rattle.model.specs.KeepingLaws.{AcceptedSplitsKeepLookupsWellFormed, AcceptedWrapsKeepLookupsWellFormed, SplittingKeepsLookupsWellFormed, WrappingKeepsLookupsWellFormed}
 use Rattle.model.proofs.Lists.{all_front, all_back, all_both, all-nth}
 use Rattle.model.proofs.KeepParts.{all_whole, parts_full}
@@ -234,7 +234,7 @@ module _ (caps : Capacities) (meaning : List ℕ → Option Meant) (span : List 
         some = k.0.0.0;
         sets = k.0.0.1;
         bytes = subst (λ (bs : List ℕ). Bytes bs) (sym k.0.1) k.1.bytes;
-        means = subst (λ (bs : List ℕ). meaning bs ≡ Some (glyphs_meant t, length bs)) (sym k.0.1) k.1.means;
+        means = subst (λ (bs : List ℕ). meaning bs ≡ Some (glyphs_of t, length bs)) (sym k.0.1) k.1.means;
       })
       (divided wrapped wrote fresh s (kept ∷ p ∷ ps))
       (all_both (λ (t : Subtable). GoodSets t.sets × Renewed wrote t) (WroteWell meaning span wrote) (divided wrapped wrote fresh s (kept ∷ p ∷ ps))

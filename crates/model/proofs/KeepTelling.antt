@@ -7,7 +7,7 @@ use Rattle.std.proofs.lemmas.Bool.{eqb-true, cond_both}
 use Rattle.model.specs.Forest.{Ligature, LigatureSet, Subtable}
 use Rattle.model.specs.Cutting.{Entry, entries_from, sets_from, entries, parts}
 use Rattle.model.specs.Splitting.{Group, alone, with_first, join_group, groups, sets_of, new_sets, comes_here, pieces, after_pieces, extended, divided, after_divided, split_all}
-use Rattle.model.specs.Sound.{glyphs_meant}
+use Rattle.model.specs.Sound.{glyphs_of}
 use Rattle.model.proofs.Lists.{joined_append}
 use Rattle.model.proofs.KeepParts.{all_whole}
 use Rattle.model.proofs.PartsRule.{whole, joined_parts}
@@ -28,7 +28,7 @@ first_from of i (t ∷ ts) h =
 
 -- the first glyph of the set of that index
 abbrev pub first_of : Subtable → ℕ → ℕ
-first_of s i = get_or (glyphs_meant s) i 0
+first_of s i = get_or (glyphs_of s) i 0
 
 pub first_of_entries : (s : Subtable) → AllByRecursion (λ (e : Entry). e.first ≡ first_of s e.set) (entries s)
 first_of_entries s = first_from (first_of s) 0 s.sets (λ k lt. ap (first_of s) (let z : 0 + k ≡ k = omega arith in z))

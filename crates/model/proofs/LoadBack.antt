@@ -21,7 +21,7 @@ use Rattle.coverage.specs.Meaning.{Meant}
 use Rattle.model.specs.Forest.{Ligature, LigatureSet, Subtable, Lookup, Taken, Model}
 use Rattle.model.specs.Tables.{Slot, slot, slots_from, Table, Placed, zeros, head, head_or, lookup_table, extension_table, subtable_table, coverage_table, set_table, ligature_table, set_walk, extension_walk, subtable_walk, lookup_walk, model_walk, vertex_of, count_of, targets}
 use Rattle.model.specs.Splitting.{Capacities, subtable_limit}
-use Rattle.model.specs.Sound.{Value, GoodLigature, GoodSet, GoodSubtable, GoodLookup, Good, Lawful, Distinct, glyphs_meant}
+use Rattle.model.specs.Sound.{Value, GoodLigature, GoodSet, GoodSubtable, GoodLookup, Good, Lawful, Distinct, glyphs_of}
 use Rattle.model.specs.Loading.{width_of, slots_of, virtuals_of, TableAt, Spelt, taken_by, short_of, Holds, Loaded, Loads, accepted, no_table, table_in, link_of, spell_table, stream_of, tidy}
 use Rattle.model.specs.LoadingLaws.{Enough, ModelsLoad}
 use Rattle.model.proofs.Lists.{all_both, all_parts_lem, all_mapped, all_any, joined_all, one, one_same, one_other, option_few, option_all}
@@ -200,7 +200,7 @@ module _ {admits : List ℕ → Type 0} {meaning : List ℕ → Option Meant} {s
 
   coverage_sound : (s : Subtable) → GoodSubtable meaning s → Sound n (coverage_table s).table
   coverage_sound s h =
-      let gs = glyphs_meant s in
+      let gs = glyphs_of s in
       let k : length gs < 65536 = glyphs_few gs (law.listed gs (law.sound s.covering gs (length s.covering) h.means)) in
       let e = law.even s.covering gs (length s.covering) h.means in
       let short = law.short s.covering gs (length s.covering) h.means in
@@ -215,8 +215,8 @@ module _ {admits : List ℕ → Type 0} {meaning : List ℕ → Option Meant} {s
 
   pub few_sets : (s : Subtable) → GoodSubtable meaning s → length s.sets < 65536
   few_sets s h =
-      let k = glyphs_few (glyphs_meant s) (law.listed (glyphs_meant s) (law.sound s.covering (glyphs_meant s) (length s.covering) h.means)) in
-      let m : length (glyphs_meant s) ≡ length s.sets = length-map s.sets (λ (t : LigatureSet). t.first) in
+      let k = glyphs_few (glyphs_of s) (law.listed (glyphs_of s) (law.sound s.covering (glyphs_of s) (length s.covering) h.means)) in
+      let m : length (glyphs_of s) ≡ length s.sets = length-map s.sets (λ (t : LigatureSet). t.first) in
       omega arith
 
   extension_walk_sound : (o : Option ℕ) (v : ℕ) → v < n → AllByRecursion (SoundAt n) (extension_walk o v)

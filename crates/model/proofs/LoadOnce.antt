@@ -12,7 +12,7 @@ use Rattle.coverage.specs.Meaning.{Meant}
 use Rattle.model.specs.Forest.{Ligature, LigatureSet, Subtable, Lookup, Model}
 use Rattle.model.specs.Tables.{Placed, head, head_or, lookup_table, extension_table, subtable_table, coverage_table, set_table, ligature_table, set_walk, extension_walk, subtable_walk, lookup_walk}
 use Rattle.model.specs.Splitting.{Capacities}
-use Rattle.model.specs.Sound.{GoodSubtable, GoodLookup, Lawful, glyphs_meant}
+use Rattle.model.specs.Sound.{GoodSubtable, GoodLookup, Lawful, glyphs_of}
 use Rattle.model.specs.Loading.{TableAt, Spelt, taken_by, short_of, Loosely, Strays, Lowest, Never, FirstFault, Holds, Loaded, Loads, misfit, short, loose, astray, faulty, accepted}
 use Rattle.model.specs.LoadingLaws.{OutcomesUnique}
 use Rattle.model.proofs.Lists.{all_parts_lem, joined_all, some_same}
@@ -79,7 +79,7 @@ module _ (s : Stream) where
         let c = subtable_same t.0 x y t.1 t.2 in
         let u = both_spelt (coverage_table x) (coverage_table y) c.0 a'.1.1.0 b'.1.1.0 in
         let bytes : x.covering ≡ y.covering = sym u.1.bytes ∙ u.2.bytes in
-        let firsts = same_meant (glyphs_meant x) (glyphs_meant y) (length x.covering) (length y.covering) (sym g.means ∙ ap meaning bytes ∙ k.means) in
+        let firsts = same_meant (glyphs_of x) (glyphs_of y) (length x.covering) (length y.covering) (sym g.means ∙ ap meaning bytes ∙ k.means) in
         let sets = same_sets x.coverage y.coverage x.sets y.sets c.1 firsts (joined_all (Holds s) (set_walk x.coverage) x.sets a'.1.1.1) (joined_all (Holds s) (set_walk y.coverage) y.sets b'.1.1.1) in
         λ i. record { extension = r.0 i; vertex = r.1 i; coverage = c.0 i; covering = bytes i; sets = sets i }
 

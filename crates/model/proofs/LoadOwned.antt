@@ -12,7 +12,7 @@ use Rattle.coverage.specs.Meaning.{Meant}
 use Rattle.model.specs.Forest.{Ligature, LigatureSet, Subtable, Lookup, Model}
 use Rattle.model.specs.Tables.{Placed, zeros, head, head_or, lookup_table, extension_table, subtable_table, coverage_table, set_table, ligature_table, set_walk, extension_walk, subtable_walk, lookup_walk}
 use Rattle.model.specs.Rules.{nth}
-use Rattle.model.specs.Sound.{GoodSet, GoodSubtable, GoodLookup, glyphs_meant}
+use Rattle.model.specs.Sound.{GoodSet, GoodSubtable, GoodLookup, glyphs_of}
 use Rattle.model.specs.Loading.{slots_of, virtuals_of, bytes_of, TableAt, Spelt, LookupShape, ExtensionShape, SubtableShape, SetShape, Place, at_lookup, Kind, is_lookup, is_extension, is_subtable, is_coverage, is_set, is_ligature, Stands, root, extension, plain, wrapped, coverage, set, ligature, Shaped, value_at, Few, Filled, Covered, virtuals_at, Fault, misshapen, crowded, bare, uncovered, untied, Faulty, Holds, Loaded}
 use Rattle.model.proofs.Lists.{all_parts_lem, all_mapped, joined_all, all-nth}
 use Rattle.model.proofs.LoadLists.{nth-map, nth_mapped}
@@ -207,7 +207,7 @@ module _ (meaning : List ℕ → Option Meant) (s : Stream) (m : Model) (h : Loa
         shaped = nil_from_length (slots_of t.links) (length_permutation [] (slots_of t.links) b.0.slots);
         few = tt;
         filled = tt;
-        covered = (glyphs_meant x, subst (λ bs. meaning bs ≡ Some (glyphs_meant x, length bs)) (sym b.0.bytes) g.means, length-map x.sets (λ (z : LigatureSet). z.first));
+        covered = (glyphs_of x, subst (λ bs. meaning bs ≡ Some (glyphs_of x, length bs)) (sym b.0.bytes) g.means, length-map x.sets (λ (z : LigatureSet). z.first));
         virtuals = b.1;
       }
   owned_passes t (the_set x y a) e =

@@ -8,7 +8,7 @@ use Rattle.coverage.specs.Meaning.{Meant}
 use Rattle.model.specs.Forest.{LigatureSet, Subtable, Lookup, Model}
 use Rattle.model.specs.Tables.{Placed, subtable_table, coverage_table, set_walk, extension_walk, subtable_walk, lookup_walk, vertex_of, count_of}
 use Rattle.model.specs.Rules.{nth}
-use Rattle.model.specs.Sound.{GoodSet, GoodSubtable, GoodLookup, Good, Distinct, Lawful, glyphs_meant}
+use Rattle.model.specs.Sound.{GoodSet, GoodSubtable, GoodLookup, Good, Distinct, Lawful, glyphs_of}
 use Rattle.model.specs.NumberingLaws.{up_from, Short}
 use Rattle.model.proofs.Lists.{all_back, joined_all, all_mapped, all-nth, distinct_count, count_distinct}
 use Rattle.model.proofs.NumberSums.{tally, tally_up, tally_up_ones, one, below_counts, counts_below, up_before, up_once, up_behind}
@@ -45,7 +45,7 @@ pub good_short : (admits : List ℕ → Type 0) (meaning : List ℕ → Option M
 good_short admits meaning span law ss h =
     All-weaker (GoodSubtable meaning) Short
     (λ s k.
-    let a = law.short s.covering (glyphs_meant s) (length s.covering) k.means in
+    let a = law.short s.covering (glyphs_of s) (length s.covering) k.means in
     let b = length-map s.sets (λ (t : LigatureSet). t.first) in
     omega arith)
     ss h

@@ -9,7 +9,7 @@ use Rattle.coverage.proofs.Lists.{listed, above_rises}
 use Rattle.model.specs.Forest.{LigatureSet, Subtable}
 use Rattle.model.specs.Cutting.{Entry, entries, same_set, parts, nth_part}
 use Rattle.model.specs.Splitting.{Group, groups, has}
-use Rattle.model.specs.Sound.{glyphs_meant}
+use Rattle.model.specs.Sound.{glyphs_of}
 use Rattle.model.specs.CuttingLaws.{Fit, Filled, Continues, InOrder, groups_from, FilledSets, covered, Covers, place, Whole, Divided, among, InBoth, PartsCoverTheirGlyphs}
 use Rattle.model.proofs.PartsRule.{whole, joined_parts, parts_filled}
 use Rattle.model.proofs.PartsGroups.{group_step, heads, groups_heads, groups_entries, order_entries, order_front, order_back}
@@ -255,7 +255,7 @@ covers_run s filled xs p zs is =
     covers_among s p b.front f.back (marks_entries s filled ∙ ap (heads mark_of) is ∙ b.is ∙ ap (λ (t : List Mark). b.front ++ t) f.is)
 
 -- as a stretch of the glyphs
-pub covers_stretch : (s : Subtable) (p : List Entry) → (c : Covers s p) → glyphs_meant s ≡ map (λ (t : LigatureSet). t.first) c.before ++ (covered p ++ map (λ (t : LigatureSet). t.first) c.after)
+pub covers_stretch : (s : Subtable) (p : List Entry) → (c : Covers s p) → glyphs_of s ≡ map (λ (t : LigatureSet). t.first) c.before ++ (covered p ++ map (λ (t : LigatureSet). t.first) c.after)
 covers_stretch s p c =
     let first : LigatureSet → ℕ = λ t. t.first in
     ap (map first) c.sets
@@ -320,10 +320,10 @@ one_in_both p q up w g h a b =
     (λ d. sym (in_both p q d up g a) ∙ in_both p q d up h b)
     w
 
-rises_covered : (s : Subtable) (p : List Entry) → GlyphList (glyphs_meant s) → Covers s p → rises (covered p) ≡ true
+rises_covered : (s : Subtable) (p : List Entry) → GlyphList (glyphs_of s) → Covers s p → rises (covered p) ≡ true
 rises_covered s p gl c =
     let first : LigatureSet → ℕ = λ t. t.first in
-    let up = (listed (glyphs_meant s) gl).rise in
+    let up = (listed (glyphs_of s) gl).rise in
     let all : rises (map first c.before ++ (covered p ++ map first c.after)) ≡ true = ap rises (sym (covers_stretch s p c)) ∙ up in
     rises_front (covered p) (map first c.after) (rises_back (map first c.before) (covered p ++ map first c.after) all)
 

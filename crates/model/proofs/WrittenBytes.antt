@@ -12,7 +12,7 @@ use Rattle.coverage.specs.Meaning.{Meant}
 use Rattle.coverage.proofs.Lists.{listed}
 use Rattle.model.specs.Forest.{Ligature, LigatureSet, Subtable, Lookup}
 use Rattle.model.specs.Tables.{Placed, lookup_table, subtable_table, coverage_table, set_table, ligature_table, extension_walk}
-use Rattle.model.specs.Sound.{Lawful, Value, GoodLigature, GoodSet, GoodSubtable, GoodLookup, glyphs_meant}
+use Rattle.model.specs.Sound.{Lawful, Value, GoodLigature, GoodSet, GoodSubtable, GoodLookup, glyphs_of}
 use Rattle.model.specs.Writing.{Start, starts_in, filled, subtable_order, extensions_of, write_order, overflows, written}
 use Rattle.model.proofs.Lists.{all_front, all_back, all_mapped, joined_all, all_joined, all_both, all_any, option_all}
 use Rattle.model.proofs.LayPlaces.{ahead}
@@ -59,7 +59,7 @@ module _ (ss : List Start) where
     -- a subtable has no more sets than a coverage can have glyphs
     pub few_sets : (s : Subtable) → GoodSubtable meaning s → length s.sets ≤ 65535
     few_sets s good =
-        let glyphs = listed (glyphs_meant s) (lawful.listed (glyphs_meant s) (lawful.sound s.covering (glyphs_meant s) (length s.covering) good.means)) in
+        let glyphs = listed (glyphs_of s) (lawful.listed (glyphs_of s) (lawful.sound s.covering (glyphs_of s) (length s.covering) good.means)) in
         let few = glyphs.few in
         let same = length-map s.sets (λ (t : LigatureSet). t.first) in
         omega arith

@@ -9,7 +9,7 @@ use Rattle.coverage.specs.Meaning.{Meant}
 use Rattle.model.specs.Forest.{Ligature, LigatureSet, Subtable, Lookup}
 use Rattle.model.specs.Tables.{Placed, vertex_of, slots_from, head, head_or, lookup_table, coverage_table, set_table, ligature_table, extension_walk, lookup_walk}
 use Rattle.model.specs.Cutting.{entries_from, sets_from, entry_size, run_size, subtable_size}
-use Rattle.model.specs.Sound.{Lawful, Distinct, GoodSubtable, GoodLookup, glyphs_meant}
+use Rattle.model.specs.Sound.{Lawful, Distinct, GoodSubtable, GoodLookup, glyphs_of}
 use Rattle.model.specs.Writing.{Start, starts_in, subtable_order, extensions_of, write_order, too_far, overflows, written}
 use Rattle.model.proofs.Lists.{all_joined, all_both, all_any, option_few}
 use Rattle.model.proofs.LayPlaces.{ahead}
@@ -159,7 +159,7 @@ module _ (admits : List ℕ → Type 0) (meaning : List ℕ → Option Meant) (s
       let near = (near_subtable ss s h.own.more).0 in
       let z = bytes_subtable s in
       let glyphs = length-map s.sets (λ (t : LigatureSet). t.first) in
-      let cover = lawful.short s.covering (glyphs_meant s) (length s.covering) good.means in
+      let cover = lawful.short s.covering (glyphs_of s) (length s.covering) good.means in
       let a = sizes_append (set_tables s) (ligature_tables s ++ coverage_table s ∷ []) in
       let b = sizes_append (ligature_tables s) (coverage_table s ∷ []) in
       omega arith

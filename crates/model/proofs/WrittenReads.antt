@@ -13,7 +13,7 @@ use Rattle.model.specs.Tables.{head, head_or, lookup_table, extension_table, set
 use Rattle.model.specs.Rules.{Rule, rule_of, set_rules, subtable_rules, rules_of}
 use Rattle.model.specs.Writing.{Start, extensions_of, start_of}
 use Rattle.model.specs.Reading.{Read, there, and_then, each_slot, ligature_at, set_at, has_mark, head_size, sets_under, subtable_at, extension_at, rules_in}
-use Rattle.model.specs.Sound.{Lawful, GoodSubtable, GoodLookup, glyphs_meant}
+use Rattle.model.specs.Sound.{Lawful, GoodSubtable, GoodLookup, glyphs_of}
 use Rattle.model.proofs.LayPlaces.{Stands, word_stands, values_within, values_stand, ahead, extension_format, extension_type, extension_slot, extension_within}
 use Rattle.model.proofs.WrittenTables.{Near, heads, set_vertices, ligature_vertices, lookup_values, subtable_values, set_values, length_lookup_values, length_subtable_values, length_set_values, filled_lookup, filled_subtable, filled_set}
 use Rattle.model.proofs.LayStarts.{Sits, size, sizes}
@@ -124,10 +124,10 @@ subtable_at_lem meaning bs p c q gs e a format count b to inside means many =
 
 module _ (admits : List ℕ → Type 0) (meaning : List ℕ → Option Meant) (span : List ℕ → ℕ) (lawful : Lawful admits meaning span) (ss : List Start) (bs : List ℕ) where
   -- the coverage means the same with whatever stands behind it
-  pub coverage_reads : (s : Subtable) (p : ℕ) → GoodSubtable meaning s → Stands bs p s.covering → meaning (drop p bs) ≡ Some (glyphs_meant s, length s.covering)
+  pub coverage_reads : (s : Subtable) (p : ℕ) → GoodSubtable meaning s → Stands bs p s.covering → meaning (drop p bs) ≡ Some (glyphs_of s, length s.covering)
   coverage_reads s p good h =
       let cs = s.covering in
-      let f = lawful.front cs (glyphs_meant s) h.rest (length cs) good.means in
+      let f = lawful.front cs (glyphs_of s) h.rest (length cs) good.means in
       ap meaning (h.is ∙ ap (λ (x : List ℕ). x ++ h.rest) (sym (take_all (length cs) cs (omega arith)))) ∙ f
 
   pub subtable_reads : (low : ℕ) (s : Subtable) → GoodSubtable meaning s → SubtableLies (Near ss) ss bs low s → subtable_at meaning bs (start_of ss s.vertex) ≡ Ok (subtable_rules s)
@@ -144,8 +144,8 @@ module _ (admits : List ℕ → Type 0) (meaning : List ℕ → Option Meant) (s
       let glyphs = length-map s.sets (λ (t : LigatureSet). t.first) in
       let means = coverage_reads s h.end good h.coverage.stands in
       ap (subtable_at meaning bs) start
-      ∙ subtable_at_lem meaning bs p (length s.sets) h.end (glyphs_meant s) (length s.covering) (omega arith) format count (omega arith) (omega arith) (omega arith) means glyphs
-      ∙ each_slot_lem set_rules (λ i r. set_at bs (get_or (glyphs_meant s) i 0) r) bs p s.sets (p + 6) 0 each where
+      ∙ subtable_at_lem meaning bs p (length s.sets) h.end (glyphs_of s) (length s.covering) (omega arith) format count (omega arith) (omega arith) (omega arith) means glyphs
+      ∙ each_slot_lem set_rules (λ i r. set_at bs (get_or (glyphs_of s) i 0) r) bs p s.sets (p + 6) 0 each where
         p : ℕ
         p = h.place
 
@@ -155,7 +155,7 @@ module _ (admits : List ℕ → Type 0) (meaning : List ℕ → Option Meant) (s
         st : Stands bs p (value_bytes (subtable_values ss s))
         st = subst (λ (x : List ℕ). Stands bs p x) (filled_subtable ss s h.own.more) h.own.stands
 
-        each : (k : ℕ) (d : LigatureSet) → k < length s.sets → set_at bs (get_or (glyphs_meant s) (0 + k) 0) (p + word16 bs (p + 6 + 2 * k)) ≡ Ok (set_rules (get_or s.sets k d))
+        each : (k : ℕ) (d : LigatureSet) → k < length s.sets → set_at bs (get_or (glyphs_of s) (0 + k) 0) (p + word16 bs (p + 6 + 2 * k)) ≡ Ok (set_rules (get_or s.sets k d))
         each k d lt =
             let c = s.coverage in
             let t = get_or s.sets k d in
@@ -164,11 +164,11 @@ module _ (admits : List ℕ → Type 0) (meaning : List ℕ → Option Meant) (s
             let from = a.from in
             let m = length-map s.sets (λ (t : LigatureSet). t.vertex) in
             let z : 0 + k ≡ k = omega arith in
-            let first : get_or (glyphs_meant s) (0 + k) 0 ≡ t.first = ap (λ j. get_or (glyphs_meant s) j 0) z ∙ get_or-map (λ (t : LigatureSet). t.first) s.sets k d 0 lt in
+            let first : get_or (glyphs_of s) (0 + k) 0 ≡ t.first = ap (λ j. get_or (glyphs_of s) j 0) z ∙ get_or-map (λ (t : LigatureSet). t.first) s.sets k d 0 lt in
             let vertex = get_or-map (λ (t : LigatureSet). t.vertex) s.sets k d 0 lt in
             let front = 1 ∷ ahead ss s.vertex c ∷ length s.sets ∷ [] in
             let e = slot_leads_last ss bs s.vertex p front (set_vertices s) start st (p + 6) k t.vertex refl (omega arith) vertex (omega arith) in
-            ap (set_at bs (get_or (glyphs_meant s) (0 + k) 0)) e ∙ ap (λ (x : ℕ). set_at bs x (start_of ss t.vertex)) first
+            ap (set_at bs (get_or (glyphs_of s) (0 + k) 0)) e ∙ ap (λ (x : ℕ). set_at bs x (start_of ss t.vertex)) first
             ∙ set_reads ss bs c p h.middle h.end t a b
 
 -- AN EXTENSION TABLE leads to its subtable

@@ -6,7 +6,7 @@ use Rattle.model.specs.Forest.{Ligature, LigatureSet, Subtable, Lookup, Model}
 use Rattle.model.specs.Tables.{Placed, ligature_table, subtable_table, set_walk}
 use Rattle.model.specs.Rules.{nth}
 use Rattle.model.specs.Cutting.{Entry, entries, table_length, entry_size, run_size, subtable_size, touched, parts, nth_part, Cut, cuts, CutRule}
-use Rattle.model.specs.Sound.{glyphs_meant}
+use Rattle.model.specs.Sound.{glyphs_of}
 use Rattle.model.specs.Splitting.{Group, groups, has, all_cuts, split_lookup, split_bill, first_long}
 
 -- a ceiling of at least 16, and no ligature too long for it: each fits into a part of its own
@@ -183,7 +183,7 @@ pub record Coverage (s : Subtable) (ps : List (List Entry)) : Type 0 where
   pub two : (k : ℕ) → suc k < length ps → Covers s (nth_part ps k ++ nth_part ps (suc k))
   pub shared : (k : ℕ) → suc k < length ps → Whole (nth_part ps k) (nth_part ps (suc k)) ⊎ Divided (nth_part ps k) (nth_part ps (suc k))
   -- where the subtable's glyphs rise, no two glyphs are in both
-  pub once : GlyphList (glyphs_meant s) → (k : ℕ) → suc k < length ps → (g h : ℕ) → InBoth g (nth_part ps k) (nth_part ps (suc k)) → InBoth h (nth_part ps k) (nth_part ps (suc k)) → g ≡ h
+  pub once : GlyphList (glyphs_of s) → (k : ℕ) → suc k < length ps → (g h : ℕ) → InBoth g (nth_part ps k) (nth_part ps (suc k)) → InBoth h (nth_part ps k) (nth_part ps (suc k)) → g ≡ h
 
 abbrev pub PartsCoverTheirGlyphs : Type 0
 PartsCoverTheirGlyphs = (ceiling : ℕ) (s : Subtable) → Fit ceiling (entries s) → FilledSets s.sets → Coverage s (parts ceiling (entries s))

@@ -7,7 +7,7 @@ use Rattle.model.specs.Forest.{Subtable, Lookup, Model}
 use Rattle.model.specs.Rules.{Rule, Sourced, nth, subtable_rules, rules_of, sourced_rules, shape, rule}
 use Rattle.model.specs.Cutting.{entries, parts, subtable_size}
 use Rattle.model.specs.Splitting.{Capacities, Changed, divided, is_wrapped, split_lookup, split, wrap_lookup, wrap, all_cuts, subtables_after, first_long, subtable_limit, all_renewed, renewed_in}
-use Rattle.model.specs.Sound.{GoodSet, GoodLookup, glyphs_meant, WroteWell}
+use Rattle.model.specs.Sound.{GoodSet, GoodLookup, glyphs_of, WroteWell}
 
 -- RULES: a rule with the vertex of its ligature, in whatever subtable it stands
 pub record Named : Type 0 where
@@ -128,7 +128,7 @@ abbrev pub EachCoverageHasAPartOfTheGlyphs : Type 0
 EachCoverageHasAPartOfTheGlyphs =
     (ceiling : ℕ) (wrapped : Bool) (wrote : ℕ → List ℕ) (fresh : ℕ) (s : Subtable)
     → AllByRecursion GoodSet s.sets
-    → AllByRecursion (λ (t : Subtable). PartOf (glyphs_meant t) (glyphs_meant s)) (divided wrapped wrote fresh s (parts ceiling (entries s)))
+    → AllByRecursion (λ (t : Subtable). PartOf (glyphs_of t) (glyphs_of s)) (divided wrapped wrote fresh s (parts ceiling (entries s)))
 
 -- HOW MANY ARE NEW
 abbrev pub NewSubtablesAreCountedByCuts : Type 0

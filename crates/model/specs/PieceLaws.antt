@@ -5,7 +5,7 @@ use Rattle.model.specs.Forest.{Ligature, LigatureSet, Subtable, Lookup, Model}
 use Rattle.model.specs.Rules.{nth}
 use Rattle.model.specs.Cutting.{Entry, entries, parts, cuts, nth_part}
 use Rattle.model.specs.Splitting.{Group, groups, has, divided, split_bill}
-use Rattle.model.specs.Sound.{glyphs_meant}
+use Rattle.model.specs.Sound.{glyphs_of}
 use Rattle.model.specs.CuttingLaws.{FilledSets, under, covered}
 use Rattle.model.specs.Samples.{ligature, ligature_set, subtable_of_three, cut, bill}
 
@@ -20,7 +20,7 @@ gathered t = (t.first, t.ligatures)
 pub record IsPart (p : List Entry) (d : Subtable) : Type 0 where
   pub ligatures : flat_map (λ (t : LigatureSet). map (under t.first) t.ligatures) d.sets ≡ map (λ (e : Entry). under e.first e.ligature) p
   pub sets : map held d.sets ≡ map gathered (groups p)
-  pub glyphs : glyphs_meant d ≡ covered p
+  pub glyphs : glyphs_of d ≡ covered p
 
 -- the tables of the original stay
 pub record Original (s d : Subtable) : Type 0 where

@@ -28,8 +28,8 @@ abbrev pub Distinct : List ℕ → Type 0
 Distinct [] = Unit {0}
 Distinct (v ∷ vs) = (count_of v vs ≡ 0) × Distinct vs
 
-abbrev pub glyphs_meant : Subtable → List ℕ
-glyphs_meant s = map (λ (t : LigatureSet). t.first) s.sets
+abbrev pub glyphs_of : Subtable → List ℕ
+glyphs_of s = map (λ (t : LigatureSet). t.first) s.sets
 
 -- the laws of a coverage codec, by what it admits, means and tells as sizes
 pub record Lawful (admits : List ℕ → Type 0) (meaning : List ℕ → Option Meant) (span : List ℕ → ℕ) : Type 0 where
@@ -46,15 +46,15 @@ module _ (meaning : List ℕ → Option Meant) where
   -- what a lawful codec wrote for a subtable's coverage: bytes that mean its glyphs, as many as the size told
   pub record WroteWell (span : List ℕ → ℕ) (wrote : ℕ → List ℕ) (s : Subtable) : Type 0 where
     pub bytes : Bytes (wrote s.coverage)
-    pub long : length (wrote s.coverage) ≡ span (glyphs_meant s)
-    pub means : meaning (wrote s.coverage) ≡ Some (glyphs_meant s, length (wrote s.coverage))
+    pub long : length (wrote s.coverage) ≡ span (glyphs_of s)
+    pub means : meaning (wrote s.coverage) ≡ Some (glyphs_of s, length (wrote s.coverage))
 
   -- the coverage's bytes mean the first glyphs of the sets, and end where that ends
   pub record GoodSubtable (s : Subtable) : Type 0 where
     pub some : 0 < length s.sets
     pub sets : AllByRecursion GoodSet s.sets
     pub bytes : Bytes s.covering
-    pub means : meaning s.covering ≡ Some (glyphs_meant s, length s.covering)
+    pub means : meaning s.covering ≡ Some (glyphs_of s, length s.covering)
 
   -- extension tables just where the type is 7; a mark filtering set just where the flag asks for one
   pub record GoodLookup (l : Lookup) : Type 0 where
