@@ -1,6 +1,2 @@
-// The walk.
+// The walk: lemmas on its steps; its code is still to come.
 #![tactic(auto)]
-
-pub fn nothing() -> u8 {
-    0
-}
