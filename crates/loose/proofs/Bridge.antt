@@ -24,7 +24,7 @@ use Rattle.loose.specs.Faults.{Faultless, FirstFault, Owned}
 use Rattle.loose.proofs.Order.{ordered_shuffled, ordered_rise}
 use Rattle.loose.proofs.Scan.{free_all, stops_first}
 use Rattle.loose.proofs.Blocks.{place, block_is, block_from}
-use Rattle.loose.proofs.Judging.{strict, Sized, free_never, stops_found}
+use Rattle.loose.proofs.Judging.{strict_up, Sized, free_never, stops_found}
 use Rattle.loose.proofs.Standing.{length_vertices, stands, blocks_owned}
 
 -- a table's slots once nothing is loose
@@ -73,7 +73,7 @@ module _ (s : Stream) (t : StreamTable) (below : size_of t < behind_all) (tight 
   pub firm : Firm (table_for t)
   firm =
       record {
-        up = strict 0 (ordered place (slots_of t.links)) (ordered_rise place (slots_of t.links)) (λ p.
+        up = strict_up 0 (ordered place (slots_of t.links)) (ordered_rise place (slots_of t.links)) (λ p.
             let e : count_by (at_position p) (ordered place (slots_of t.links)) ≡ count_by (at_position p) (slots_of t.links) = sum_by-IsPermutation (λ (l : Slot). cond (at_position p l) 1 0) (slots_of t.links) (ordered place (slots_of t.links)) (ordered_shuffled place (slots_of t.links)) in
             ⊎_elim (λ g. absurd (tight (shared p g))) (λ g. omega arith) (cases_lt 1 (count_by (at_position p) (slots_of t.links))));
         widths = on (λ (l : Slot). (l.width ≡ 2) ⊎ (l.width ≡ 4)) (slot_widths t.links);

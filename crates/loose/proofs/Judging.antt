@@ -16,6 +16,7 @@ use Rattle.model.proofs.Lists.{one, one_same, one_other, some_same}
 use Rattle.model.proofs.LoadSame.{Up, has_first, has_later}
 use Rattle.model.proofs.LoadLists.{count_cons}
 use Rattle.model.proofs.LoadBack.{at_position}
+use Rattle.model.proofs.LoadShapes.{Rise as RiseByPosition, strict}
 use Rattle.graph.specs.declared.VertexRow.{VertexRow}
 use Rattle.graph.specs.Memory.{behind_all, vertex_at, slot_row, virtual_rows}
 use Rattle.graph.specs.Filling.{size_of, ordered, block_of, blocks_from}
@@ -48,22 +49,12 @@ up_count p a (l ∷ ls) u =
     (λ o. let z = one_other l.position p o in let r = up_count p (suc l.position) ls u.1 in omega arith)
     (cases_eq l.position p)
 
-pub strict : (a : ℕ) (ls : List Slot) → Rise place a ls → ((p : ℕ) → count_by (at_position p) ls ≤ 1) → Up a ls
-strict a [] r h = tt
-strict a (x ∷ []) r h = (r.0, tt)
-strict a (x ∷ y ∷ ys) r h =
-    let k : suc x.position ≤ y.position =
-    ⊎_elim
-    (λ l. l)
-    (λ l. let e : y.position ≡ x.position = let q = r.1.0 in omega arith in
-    let c = count_cons (at_position x.position) x (y ∷ ys) in
-    let d = count_cons (at_position x.position) y ys in
-    let o = one_same x.position x.position refl in
-    let w = one_same y.position x.position e in
-    let z = h x.position in
-    absurd (omega arith))
-    (cases_lt x.position y.position) in
-    (r.0, strict (suc x.position) (y ∷ ys) (k, r.1.1) (λ p. let c = count_cons (at_position p) x (y ∷ ys) in let z = h p in omega arith))
+by_position : (a : ℕ) (ls : List Slot) → Rise place a ls → RiseByPosition a ls
+by_position a [] r = tt
+by_position a (l ∷ ls) r = (r.0, by_position l.position ls r.1)
+
+pub strict_up : (a : ℕ) (ls : List Slot) → Rise place a ls → ((p : ℕ) → count_by (at_position p) ls ≤ 1) → Up a ls
+strict_up a ls r h = strict a ls (by_position a ls r) h
 
 module _ (vs : List VertexRow) where
   -- ROWS WITHOUT A FAULT

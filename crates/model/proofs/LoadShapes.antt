@@ -45,7 +45,7 @@ sort_shuffled [] = IsPermutation-refl []
 sort_shuffled (l ∷ ls) = IsPermutation-trans (l ∷ ls) (l ∷ sort ls) (insert l (sort ls)) (IsPermutation-cons l ls (sort ls) (sort_shuffled ls)) (insert_shuffled l (sort ls))
 
 -- positions do not fall
-abbrev Rise : ℕ → List Slot → Type 0
+abbrev pub Rise : ℕ → List Slot → Type 0
 Rise a [] = Unit {0}
 Rise a (x ∷ xs) = (a ≤ x.position) × Rise x.position xs
 
@@ -62,7 +62,7 @@ unfolding sort
 sort_rise [] = tt
 sort_rise (l ∷ ls) = insert_rise 0 l (sort ls) (omega arith) (sort_rise ls)
 
-strict : (a : ℕ) (xs : List Slot) → Rise a xs → ((p : ℕ) → count_by (at_position p) xs ≤ 1) → Up a xs
+pub strict : (a : ℕ) (xs : List Slot) → Rise a xs → ((p : ℕ) → count_by (at_position p) xs ≤ 1) → Up a xs
 strict a [] r h = tt
 strict a (x ∷ []) r h = (r.0, tt)
 strict a (x ∷ y ∷ ys) r h =
