@@ -1,4 +1,5 @@
 -- Whatever is told of each ligature and the first glyph of its set, a division keeps what all tell, in order.
+use Rattle.std.proofs.lemmas.Grind.{flat_map-append}
 use Rattle.std.proofs.Common.{◌≡◌, ℕ, suc, ◌+◌, ◌<◌, Bool, true, cond, eqb, List, [], ◌∷◌, ◌++◌, map, length, get_or, sym, refl, ap, ◌∙◌, subst, arith}
 use Rattle.std.specs.List.{flat_map, AllByRecursion}
 use Rattle.std.proofs.lemmas.List.{append-nil, map-append}
@@ -8,7 +9,6 @@ use Rattle.model.specs.Forest.{Ligature, LigatureSet, Subtable}
 use Rattle.model.specs.Cutting.{Entry, entries_from, sets_from, entries, parts}
 use Rattle.model.specs.Splitting.{Group, alone, with_first, join_group, groups, sets_of, new_sets, comes_here, pieces, after_pieces, extended, divided, after_divided, split_all}
 use Rattle.model.specs.Sound.{glyphs_of}
-use Rattle.model.proofs.Lists.{joined_append}
 use Rattle.model.proofs.KeepParts.{all_whole}
 use Rattle.model.proofs.PartsRule.{whole, joined_parts}
 
@@ -142,7 +142,7 @@ module _ {X : Type 0} (f : ℕ → Ligature → X) where
   pub split_all_tells : (ceiling : ℕ) (wrapped : Bool) (wrote : ℕ → List ℕ) (fresh : ℕ) (ss : List Subtable) → flat_map subtable_tells (split_all ceiling wrapped wrote fresh ss) ≡ flat_map subtable_tells ss
   split_all_tells c wrapped wrote fresh [] = refl
   split_all_tells c wrapped wrote fresh (s ∷ ss) =
-      joined_append subtable_tells (divided wrapped wrote fresh s (parts c (entries s))) (split_all c wrapped wrote (after_divided wrapped fresh (parts c (entries s))) ss)
+      flat_map-append subtable_tells (divided wrapped wrote fresh s (parts c (entries s))) (split_all c wrapped wrote (after_divided wrapped fresh (parts c (entries s))) ss)
       ∙ ap (λ u. u ++ flat_map subtable_tells (split_all c wrapped wrote (after_divided wrapped fresh (parts c (entries s))) ss)) (divided_tells wrapped wrote fresh s (parts c (entries s)) (joined_parts c (entries s)))
       ∙ ap (λ u. subtable_tells s ++ u) (split_all_tells c wrapped wrote (after_divided wrapped fresh (parts c (entries s))) ss)
 

@@ -1,4 +1,3 @@
-pub mod Codec
 pub mod FirstRules
 pub mod KeepGlyphs
 pub mod KeepModels

@@ -1,4 +1,5 @@
 -- The new and rewritten tables of a split lie in their parts of the pool; new sets are counted by cuts; ligatures stay.
+use Rattle.std.proofs.lemmas.Grind.{flat_map-append}
 use Rattle.std.proofs.Common.{◌≡◌, ℕ, suc, ◌+◌, ◌*◌, ◌≤◌, Bool, true, false, cond, List, [], ◌∷◌, ◌++◌, map, length, drop, None, sum_by, filter, sym, refl, ap, ◌∙◌, subst, ⊎_elim, arith, length-append}
 use Rattle.std.specs.List.{flat_map, AllByRecursion}
 use Rattle.std.proofs.lemmas.List.{append-nil, map-append}
@@ -8,7 +9,7 @@ use Rattle.model.specs.Tables.{Placed, coverage_table, set_table, extension_walk
 use Rattle.model.specs.Cutting.{Entry, entries, parts, Cut, cuts_before, cuts}
 use Rattle.model.specs.Splitting.{Group, groups, comes_here, sets_of, new_sets, pieces, after_pieces, extended, remains, divided, after_divided, split_all, is_wrapped, split_lookup, inside, all_cuts, Part, part, coverage_room, new_set_parts, piece_parts, extension_parts, divided_parts, all_parts, lookup_part, taken_parts}
 use Rattle.model.specs.NumberingLaws.{Family, pieces_of, new_sets_of, piece_tables, divided_tables, lookup_tables, Lie, Short}
-use Rattle.model.proofs.Lists.{all_front, all_back, joined_append}
+use Rattle.model.proofs.Lists.{all_front, all_back}
 use Rattle.model.proofs.NumberSums.{tally, tally_sum, tally_append}
 use Rattle.model.proofs.NumberEntries.{itself}
 use Rattle.model.proofs.NumberParts.{Proper, Cut-up, new_count, sets_ligatures}
@@ -229,6 +230,6 @@ split_ligatures ceiling wrapped wrote fresh (s ∷ ss) =
     let next = after_divided wrapped fresh (parts ceiling (entries s)) in
     let one : flat_map ligatures_under here ≡ ligatures_under s
     = subst (λ (ps : List (List Entry)). flat_map ligatures_under (divided wrapped wrote fresh s ps) ≡ ligatures_under s) (sym d.are) (divided_keep wrapped wrote fresh s d.kept d.later d.so.whole) in
-    joined_append ligatures_under here (split_all ceiling wrapped wrote next ss)
+    flat_map-append ligatures_under here (split_all ceiling wrapped wrote next ss)
     ∙ ap (λ q. q ++ flat_map ligatures_under (split_all ceiling wrapped wrote next ss)) one
     ∙ ap (λ q. ligatures_under s ++ q) (split_ligatures ceiling wrapped wrote next ss)

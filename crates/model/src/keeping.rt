@@ -7,104 +7,76 @@ ghost use Rattle.model.specs.KeepingLaws.{SplittingKeepsHeads, WrappingKeepsHead
 ghost use Rattle.model.specs.KeepingLaws.{EachCoverageHasAPartOfTheGlyphs, NewSubtablesAreCountedByCuts, SplitsWithoutCutsChangeNothing};
 
 /// Whatever a subtable becomes at a ceiling, its rules stay, in order.
-pub fn divisions_keep_rules() -> u8
+pub fn divisions_keep_rules()
     ensures { DivisionsKeepRules }
-{
-    0
-}
+{}
 
 /// After an accepted split every lookup has its rules as before, in order and with the same ligature vertices: shaping and
 /// rule questions are answered as before, but for the index of the subtable. The other lookups are the same.
-pub fn splitting_keeps_rules() -> u8
+pub fn splitting_keeps_rules()
     ensures { SplittingKeepsRules }
-{
-    0
-}
+{}
 
 /// The same of an accepted wrap.
-pub fn wrapping_keeps_rules() -> u8
+pub fn wrapping_keeps_rules()
     ensures { WrappingKeepsRules }
-{
-    0
-}
+{}
 
 /// Whatever a subtable becomes at a ceiling, coverages apart, is no larger than it was.
-pub fn divisions_do_not_grow() -> u8
+pub fn divisions_do_not_grow()
     ensures { DivisionsDoNotGrow }
-{
-    0
-}
+{}
 
 /// After an accepted split no subtable of the lookup, its coverage apart, is larger than the ceiling; and a bound on the
 /// subtables of any lookup that held before still holds, so that splits at higher ceilings undo nothing.
-pub fn split_subtables_are_within_the_ceiling() -> u8
+pub fn split_subtables_are_within_the_ceiling()
     ensures { SplitSubtablesAreWithinTheCeiling }
-{
-    0
-}
+{}
 
 /// After an accepted wrap a bound on the subtables of any lookup that held before still holds.
-pub fn wrapping_keeps_sizes() -> u8
+pub fn wrapping_keeps_sizes()
     ensures { WrappingKeepsSizes }
-{
-    0
-}
+{}
 
 /// A well-formed lookup is well-formed after a split, if no ligature is too long for the ceiling, the subtables are not too
 /// many, and the bytes written for the coverages of divided subtables mean their glyphs.
-pub fn splitting_keeps_lookups_well_formed() -> u8
+pub fn splitting_keeps_lookups_well_formed()
     ensures { SplittingKeepsLookupsWellFormed }
-{
-    0
-}
+{}
 
 /// A well-formed lookup is well-formed after a wrap.
-pub fn wrapping_keeps_lookups_well_formed() -> u8
+pub fn wrapping_keeps_lookups_well_formed()
     ensures { WrappingKeepsLookupsWellFormed }
-{
-    0
-}
+{}
 
 /// All lookups of a model are well-formed after an accepted split if they were before, given what the codec wrote.
-pub fn accepted_splits_keep_lookups_well_formed() -> u8
+pub fn accepted_splits_keep_lookups_well_formed()
     ensures { AcceptedSplitsKeepLookupsWellFormed }
-{
-    0
-}
+{}
 
 /// All lookups of a model are well-formed after an accepted wrap if they were before.
-pub fn accepted_wraps_keep_lookups_well_formed() -> u8
+pub fn accepted_wraps_keep_lookups_well_formed()
     ensures { AcceptedWrapsKeepLookupsWellFormed }
-{
-    0
-}
+{}
 
 /// The glyphs of each subtable that a division makes are a contiguous part of the original's, so that a codec which admits
 /// those admits these.
-pub fn each_coverage_has_a_part_of_the_glyphs() -> u8
+pub fn each_coverage_has_a_part_of_the_glyphs()
     ensures { EachCoverageHasAPartOfTheGlyphs }
-{
-    0
-}
+{}
 
 /// A split adds one subtable for each cut.
-pub fn new_subtables_are_counted_by_cuts() -> u8
+pub fn new_subtables_are_counted_by_cuts()
     ensures { NewSubtablesAreCountedByCuts }
-{
-    0
-}
+{}
 
 /// An accepted split that makes no subtable leaves the whole model as it was, what is taken from the pools included.
-pub fn splits_without_cuts_change_nothing() -> u8
+pub fn splits_without_cuts_change_nothing()
     ensures { SplitsWithoutCutsChangeNothing }
-{
-    0
-}
+{}
 
 /// An accepted split or wrap keeps the lookup's vertex, flag and mark filtering set; a split keeps its type, a wrap makes it 7.
-pub fn heads_are_kept() -> u8
+pub fn heads_are_kept()
     ensures split { SplittingKeepsHeads }
     ensures wrap { WrappingKeepsHeads }
-{
-    0
-}
+{}

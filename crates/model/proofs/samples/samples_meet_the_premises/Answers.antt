@@ -1,4 +1,4 @@
-use Rattle.std.proofs.Common.{◌≡◌, ℕ, [], ◌∷◌, Ok, Err, Result, refl, arith, lit<}
+use Rattle.std.proofs.Common.{◌≡◌, Ok, Err, Result, rules}
 use Rattle.coverage.specs.Glyphs.{is_glyph_list_of}
 use Rattle.coverage_list.specs.Format1.{is_array, array_meaning, array_bytes, array_span}
 use Rattle.coverage_opentype.specs.Format2.{in_order, is_ranges, range_meaning}
@@ -10,15 +10,15 @@ use Rattle.model.proofs.Premises.{bytes_all, good_s_open_type, good_s_list, good
 use Rattle.model.proofs.samples.samples_meet_the_premises.Goals as goal
 
 never : {X Y Z : Type 0} {e : Y} {x : X} → ◌≡◌ {A = Result X Y} (Err e) (Ok x) → Z
-never h = let z : ◌≡◌ {A = ℕ} 0 1 = cc in absurd (omega arith)
+never h = cc
 
 open_type_line : WritesAlong ample open_type_meaning open_type_span (wrote_s open_type_bytes) 0 desk_s line_s
 unfolding run_size is_glyph_list_of is_array array_meaning in_order is_ranges range_meaning open_type_meaning
-open_type_line = (λ ch e. never e, (λ ch e. never e, (λ ch e. (record { bytes = bytes_all (open_type_bytes (10 ∷ [])) (lit< tt, (lit< tt, (lit< tt, (lit< tt, (lit< tt, (lit< tt, tt)))))); long = refl; means = refl }, (record { bytes = bytes_all (open_type_bytes (10 ∷ [])) (lit< tt, (lit< tt, (lit< tt, (lit< tt, (lit< tt, (lit< tt, tt)))))); long = refl; means = refl }, (record { bytes = bytes_all (open_type_bytes (20 ∷ [])) (lit< tt, (lit< tt, (lit< tt, (lit< tt, (lit< tt, (lit< tt, tt)))))); long = refl; means = refl }, tt))), (tt, (tt, (tt, (tt, (tt, (tt, tt)))))))))
+open_type_line = search (rules, bytes_all, never) depth 40
 
 list_line : WritesAlong ample array_meaning array_span (wrote_s array_bytes) 0 desk_s line_s
 unfolding run_size is_glyph_list_of is_array array_meaning
-list_line = (λ ch e. never e, (λ ch e. never e, (λ ch e. (record { bytes = bytes_all (array_bytes (10 ∷ [])) (lit< tt, (lit< tt, (lit< tt, (lit< tt, (lit< tt, (lit< tt, tt)))))); long = refl; means = refl }, (record { bytes = bytes_all (array_bytes (10 ∷ [])) (lit< tt, (lit< tt, (lit< tt, (lit< tt, (lit< tt, (lit< tt, tt)))))); long = refl; means = refl }, (record { bytes = bytes_all (array_bytes (20 ∷ [])) (lit< tt, (lit< tt, (lit< tt, (lit< tt, (lit< tt, (lit< tt, tt)))))); long = refl; means = refl }, tt))), (tt, (tt, (tt, (tt, (tt, (tt, tt)))))))))
+list_line = search (rules, bytes_all, never) depth 40
 
 pub returns : goal.returns
 returns c = record { open_type = (good_s_open_type, good_t_open_type); list = (good_s_list, good_t_list); open_type_line = open_type_line; list_line = list_line }
