@@ -1,6 +1,7 @@
 -- What memory holds, a reader of its used part is shown.
 use Rattle.std.proofs.Common.{◌≡◌, ◌<◌, ◌≤◌, List, [], ◌∷◌, length, take, ap, ◌∙◌, subst, arith, length-append}
-use Rattle.std.specs.List.{flat_map, AllByRecursion}
+use Rattle.std.specs.List.{ContainsAt as Has, flat_map}
+use Rattle.std.proofs.ByRecursion.{All-weaker, all-has, all_has_itself}
 use Rattle.std.proofs.lemmas.List.{length-take-le, get_or-take}
 use Rattle.model.specs.Forest.{Lookup, Model}
 use Rattle.model.specs.Tables.{Placed, lookup_walk, model_walk}
@@ -15,10 +16,6 @@ use Rattle.graph.specs.Holding.{Lent, used_of, Holds, Shows}
 lookups_few : (ls : List Lookup) → length ls ≤ length (flat_map lookup_walk ls)
 lookups_few [] = omega arith
 lookups_few (l ∷ ls) = let a = lookups_few ls in let b = length-append (lookup_walk l) (flat_map lookup_walk ls) in omega arith
-
-both : {X : Type 0} (P Q R : X → Type 0) → ((x : X) → P x → Q x → R x) → (xs : List X) → AllByRecursion P xs → AllByRecursion Q xs → AllByRecursion R xs
-both P Q R f [] p q = tt
-both P Q R f (x ∷ xs) p q = (f x p.0 q.0, both P Q R f xs p.1 q.1)
 
 pub shows : (l : Lent) (u : Counts) (m : Model) → Holds l u m → Shows (used_of l u) u.lookups m
 shows l u m h =
@@ -37,9 +34,11 @@ shows l u m h =
             omega arith,
             ap (λ (r : VertexRow). r.lookup) (get_or-take u.vertices l.vertices i zero_vertex lt) ∙ ap (λ (r : VertexRow). r.lookup) (h.rows i lt),
           );
-      tables = both (λ (p : Placed). table_in (model_walk m) p.vertex ≡ p.table) (λ (p : Placed). p.vertex < m.taken.vertices) (λ (p : Placed). Bears (used_of l u) p.vertex p.table)
-          (λ p e b. subst (Bears (used_of l u) p.vertex) e (h.tables p.vertex (omega arith)))
-          (model_walk m) (found (model_walk m) h.distinct) h.below;
+      tables = All-weaker (Has (model_walk m)) (λ (p : Placed). Bears (used_of l u) p.vertex p.table)
+          (λ p i.
+          let b = all-has (λ (q : Placed). q.vertex < m.taken.vertices) (model_walk m) p h.below i in
+          subst (Bears (used_of l u) p.vertex) (all-has (λ (q : Placed). table_in (model_walk m) q.vertex ≡ q.table) (model_walk m) p (found (model_walk m) h.distinct) i) (h.tables p.vertex (omega arith)))
+          (model_walk m) (all_has_itself (model_walk m));
       vertices = lv ∙ h.vertices;
       links = length-take-le u.links l.links fl ∙ h.count;
       bytes = length-take-le u.bytes l.bytes h.pool ∙ h.bytes;

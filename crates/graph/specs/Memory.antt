@@ -52,6 +52,10 @@ pub record Within (m : Memory) (r : VertexRow) : Type 0 where
   pub part : r.start + r.size ≤ length m.bytes
   pub rows : r.first + r.links ≤ length m.links
 
+-- the vertex v is there, and so are all bytes that its row names
+abbrev pub HasPart : Memory → ℕ → Type 0
+HasPart m v = (v < length m.vertices) × ((vertex_at m.vertices v).start + (vertex_at m.vertices v).size ≤ length m.bytes)
+
 -- the memory has the table t for the vertex v
 pub record Bears (m : Memory) (v : ℕ) (t : Table) : Type 0 where
   pub below : v < length m.vertices

@@ -1,19 +1,19 @@
 // The graph in lent memory: the vertex record, and the view through which tables are read.
 #![tactic(auto)]
 
-ghost use Rattle.std.specs.Prelude.{◌≡◌, ℕ, ◌+◌, ◌-◌, ◌<◌, ◌≤◌, length, IfSome, MatchOption, slice_index_or};
+ghost use Rattle.std.specs.Prelude.{◌≡◌, ◌+◌, ◌<◌, ◌↔◌, length, IfSome, IsSome, slice_index_or};
 ghost use Rattle.data_bytes.specs.BigEndian.{word16};
 ghost use Rattle.rows.specs.Kinds.{zero_link};
 ghost use Rattle.model.specs.Rules.{nth};
 ghost use Rattle.model.specs.Splitting.{lent};
 ghost use Rattle.graph.specs.Holding.{room};
-ghost use Rattle.graph.specs.Memory.{zero_vertex, memory, vertex_at, part_of, rows_of, Within};
+ghost use Rattle.graph.specs.Memory.{zero_vertex, memory, part_of, rows_of, HasPart};
 
 use data_bytes::word_at;
 use rows::LinkRow;
 
 /// What the graph keeps of a vertex. A row that is not in use has zero in every field.
-#[derive(Clone, Copy)]
+#[derive(Clone, Copy, PartialEq, Eq, Default, Debug)]
 pub struct VertexRow {
     /// Where its part of the byte pool starts, and how many bytes that has.
     pub start: u32,
@@ -36,22 +36,12 @@ impl VertexRow {
     pub fn zero() -> VertexRow
         ensures { result ≡ zero_vertex }
     {
-        VertexRow {
-            start: 0,
-            size: 0,
-            first: 0,
-            links: 0,
-            parent: 0,
-            lookup: 0,
-            entries: 0,
-            queue: 0,
-            reached: false,
-        }
+        VertexRow::default()
     }
 }
 
 /// How much of each pool a graph may take.
-#[derive(Clone, Copy)]
+#[derive(Clone, Copy, PartialEq, Eq, Debug)]
 pub struct Capacities {
     pub vertices: usize,
     pub links: usize,
@@ -72,7 +62,7 @@ impl Capacities {
 }
 
 /// How much of everything is in use, and how many lookups there are.
-#[derive(Clone, Copy)]
+#[derive(Clone, Copy, PartialEq, Eq, Default, Debug)]
 pub struct Counts {
     pub lookups: usize,
     pub vertices: usize,
@@ -94,38 +84,23 @@ impl<'a> GraphView<'a> {
     pub fn vertex(&self, vertex: u32) -> Option<VertexRow>
         ensures { result ≡ nth (memory self.now).vertices vertex }
     {
-        let at = vertex as usize;
-        if at < self.vertices.len() {
-            Some(self.vertices[at])
-        } else {
-            None
-        }
+        self.vertices.get(vertex as usize).copied()
     }
 
     /// The bytes of a vertex; none where there is no such vertex, or where its row names bytes that are not there.
     pub fn part(&self, vertex: u32) -> Option<&'a [u8]>
         ensures part { IfSome result (λ s. s.now ≡ part_of (memory self.now) vertex) }
-        ensures there { MatchOption result ((vertex < length (memory self.now).vertices → (vertex_at (memory self.now).vertices vertex).start + (vertex_at (memory self.now).vertices vertex).size ≤ length (memory self.now).bytes → ⊥)) (λ s. (vertex < length (memory self.now).vertices) × ((vertex_at (memory self.now).vertices vertex).start + (vertex_at (memory self.now).vertices vertex).size ≤ length (memory self.now).bytes)) }
+        ensures there { IsSome result ↔ HasPart (memory self.now) vertex }
     {
-        let at = vertex as usize;
-        if at >= self.vertices.len() {
-            return None;
-        }
-        let row = self.vertices[at];
+        let row = self.vertex(vertex)?;
         let start = row.start as usize;
         let end = start + row.size as usize;
-        if end > self.bytes.len() {
-            return None;
-        }
-        let bytes = self.bytes;
-        Some(&bytes[start..end])
+        self.bytes.get(start..end)
     }
 
     /// The 16-bit number at a place of a vertex's part.
     pub fn word(&self, vertex: u32, at: usize) -> u16
-        requires below { vertex < length (memory self.now).vertices }
-        requires within { Within (memory self.now) (vertex_at (memory self.now).vertices vertex) }
-        requires there { at + 1 < (vertex_at (memory self.now).vertices vertex).size }
+        requires { at + 1 < length (part_of (memory self.now) vertex) }
         ensures { result ≡ word16 (part_of (memory self.now) vertex) at }
     {
         let row = self.vertices[vertex as usize];
@@ -134,9 +109,7 @@ impl<'a> GraphView<'a> {
 
     /// The i-th link row of a vertex.
     pub fn link(&self, vertex: u32, i: usize) -> LinkRow
-        requires below { vertex < length (memory self.now).vertices }
-        requires within { Within (memory self.now) (vertex_at (memory self.now).vertices vertex) }
-        requires there { i < (vertex_at (memory self.now).vertices vertex).links }
+        requires { i < length (rows_of (memory self.now) vertex) }
         ensures { result ≡ slice_index_or (rows_of (memory self.now) vertex) i zero_link }
     {
         let row = self.vertices[vertex as usize];

@@ -1,5 +1,5 @@
 -- Memory as load leaves it holds the loaded model, with the parts in table order from the front of the pool.
-use Rattle.std.proofs.Common.{◌≡◌, ℕ, zero, suc, ◌+◌, ◌-◌, ◌<◌, ◌≤◌, false, List, [], ◌∷◌, map, length, take, drop, replicate, Some, None, Option, sym, refl, ap, ◌∙◌, subst, inl, arith, length-append}
+use Rattle.std.proofs.Common.{◌≡◌, ℕ, zero, suc, ◌+◌, ◌-◌, ◌<◌, ◌≤◌, false, List, [], ◌∷◌, map, length, take, drop, replicate, Some, Option, sym, refl, ap, ◌∙◌, subst, inl, arith, length-append}
 use Rattle.std.specs.List.{flat_map}
 use Rattle.std.specs.List.Sorted.{IsPermutation}
 use Rattle.std.proofs.lemmas.List.{length-map}
@@ -16,7 +16,7 @@ use Rattle.model.specs.Rules.{nth}
 use Rattle.model.specs.Loading.{slots_of, virtuals_of, TableAt, Loaded, table_in}
 use Rattle.model.specs.Sound.{GoodLookup}
 use Rattle.model.proofs.LoadSame.{Up}
-use Rattle.model.proofs.LoadLists.{nth_below, nth_there}
+use Rattle.model.proofs.LoadLists.{nth_there}
 use Rattle.model.proofs.LoadFull.{size}
 use Rattle.model.proofs.LoadWhole.{links_parted}
 use Rattle.graph.specs.declared.VertexRow.{VertexRow}
@@ -24,7 +24,8 @@ use Rattle.graph.specs.declared.Counts.{Counts}
 use Rattle.graph.specs.Memory.{zero_vertex, vertex_at, slot_row, virtual_rows, table_rows, flat, Bears}
 use Rattle.graph.specs.Filling.{size_of, table_for, block_of, blocks_from}
 use Rattle.graph.specs.Holding.{Lent, used_of, tables_of, parent_rows, first_parent, root_at, vertex_row, PlainLookup, padded, Fresh}
-use Rattle.load.proofs.Tables.{table_is, tables_are, rows_along}
+use Rattle.graph.proofs.Laid.{rows_along}
+use Rattle.load.proofs.Tables.{table_is, tables_are}
 
 -- LENGTHS
 length_virtuals : (v k : ℕ) (ts : List ℕ) → length (virtual_rows v k ts) ≡ length ts
@@ -54,12 +55,8 @@ bytes_before (t ∷ ts) (suc n) =
 -- a part ends before any later one starts
 bytes_part : (ts : List StreamTable) (v w : ℕ) (t : StreamTable) → nth ts v ≡ Some t → v < w → bytes_in (take v ts) + size_of t ≤ bytes_in (take w ts)
 bytes_part ts v zero t e l = absurd (omega arith)
-bytes_part [] v (suc w) t e l = let z = nth_below [] v t e in absurd (omega arith)
-bytes_part (u ∷ ts) zero (suc w) t e l = let z : size_of u ≡ size_of t = ap (λ o. count o) e in omega arith
-  where
-    count : Option StreamTable → ℕ
-    count None = 0
-    count (Some x) = size_of x
+bytes_part [] v (suc w) t e l = cc
+bytes_part (u ∷ ts) zero (suc w) t e l = let z : u ≡ t = cc in let y = ap size_of z in omega arith
 bytes_part (u ∷ ts) (suc v) (suc w) t e l = let z = bytes_part ts v w t e (omega arith) in omega arith
 
 plain_lookup : (meaning : List ℕ → Option Meant) (l : Lookup) → GoodLookup meaning l → PlainLookup l

@@ -1,5 +1,5 @@
 -- The tables of a loaded model are those of its stream, vertex by vertex, and their link rows are what was laid.
-use Rattle.std.proofs.Common.{◌≡◌, ℕ, suc, ◌+◌, List, [], ◌∷◌, ◌++◌, map, length, Some, None, Option, sym, refl, ap, ◌∙◌, subst, arith}
+use Rattle.std.proofs.Common.{◌≡◌, ℕ, suc, ◌+◌, List, [], ◌∷◌, map, length, Some, None, Option, sym, refl, ap, ◌∙◌, subst, arith}
 use Rattle.std.specs.List.{flat_map, AllByRecursion, range_with_len}
 use Rattle.std.specs.List.Sorted.{IsPermutation}
 use Rattle.std.proofs.lemmas.List.Sorted.{IsPermutation-sym}
@@ -14,8 +14,7 @@ use Rattle.model.proofs.Lists.{all-nth}
 use Rattle.model.proofs.LoadSame.{Up, up_from, rising_same}
 use Rattle.model.proofs.LoadFull.{held, size}
 use Rattle.model.proofs.LoadBack.{found}
-use Rattle.graph.specs.Memory.{table_rows, flat}
-use Rattle.graph.specs.Filling.{table_for, block_of, blocks_from}
+use Rattle.graph.specs.Filling.{table_for}
 use Rattle.graph.specs.Holding.{tables_of}
 
 -- SLOTS RISE in every table of a model
@@ -49,21 +48,13 @@ lookup_rises l = (up_from 6 0 (map (λ (x : Subtable). head x) l.subtables) (ome
 walk_rises : (m : Model) → AllByRecursion Rises (model_walk m)
 walk_rises m = all_each Rises lookup_walk lookup_rises m.lookups
 
--- TABLES AND ROWS ALONG A LIST
+-- TABLES ALONG A LIST
 tables_along : (f : ℕ → Table) (ts : List StreamTable) (a : ℕ) → ((k : ℕ) (t : StreamTable) → nth ts k ≡ Some t → f (a + k) ≡ table_for t) → map f (range_with_len a (length ts)) ≡ map table_for ts
 tables_along f [] a h = refl
 tables_along f (t ∷ ts) a h =
     let z : a + 0 ≡ a = omega arith in
     ap (λ x. x ∷ map f (range_with_len (a + 1) (length ts))) (sym (ap f z) ∙ h 0 t refl)
     ∙ ap (λ xs. table_for t ∷ xs) (tables_along f ts (a + 1) (λ k u e. let w : a + 1 + k ≡ a + suc k = omega arith in ap f w ∙ h (suc k) u e))
-
-pub rows_along : (ts : List StreamTable) (v : ℕ) → ((k : ℕ) (t : StreamTable) → nth ts k ≡ Some t → block_of (v + k) t ≡ table_rows (v + k) (table_for t)) → blocks_from v ts ≡ flat v (map table_for ts)
-rows_along [] v h = refl
-rows_along (t ∷ ts) v h =
-    let z : v + 0 ≡ v = omega arith in
-    let here : block_of v t ≡ table_rows v (table_for t) = subst (λ w. block_of w t ≡ table_rows w (table_for t)) z (h 0 t refl) in
-    ap (λ xs. xs ++ blocks_from (suc v) ts) here
-    ∙ ap (λ xs. table_rows v (table_for t) ++ xs) (rows_along ts (suc v) (λ k u e. let w : v + suc k ≡ suc v + k = omega arith in subst (λ y. block_of y u ≡ table_rows y (table_for u)) w (h (suc k) u e)))
 
 module _ (meaning : List ℕ → Option Meant) (s : Stream) (m : Model) (h : Loaded meaning s m)
     (rising : (v : ℕ) (t : StreamTable) → TableAt s v t → Up 0 (table_for t).slots)

@@ -9,7 +9,7 @@ ghost use Rattle.load.specs.Outcome.{room_or, with_lookup, root_number};
 
 use graph::{Capacities, VertexRow};
 use refusals::{Pool, Refusal};
-use rows::{LinkRow, LinkWidth, ParentRow};
+use rows::{LinkRow, ParentRow, Row};
 use words::StreamCounts;
 
 /// The first pool that is too small for a stream.
@@ -29,6 +29,7 @@ fn room_for(capacities: Capacities, counts: StreamCounts) -> Result<(), Refusal>
 }
 
 /// Zeroes all rows and bytes.
+// Only this takes all four; a struct of them would have to promise besides that each slice stays the one that was lent.
 fn clear(
     vertices: &mut [VertexRow],
     links: &mut [LinkRow],
@@ -41,21 +42,13 @@ fn clear(
     ensures bytes { bytes.new ≡ replicate (length bytes.old) 0 }
 {
     vertices.fill(VertexRow::zero());
-    links.fill(LinkRow {
-        owner: 0,
-        position: 0,
-        width: LinkWidth::Zero,
-        target: 0,
-    });
-    parents.fill(ParentRow {
-        child: 0,
-        parent: 0,
-        links: 0,
-    });
+    links.fill(LinkRow::zero());
+    parents.fill(ParentRow::zero());
     bytes.fill(0);
 }
 
 /// The vertex that a root word names.
+// `words::decode` would test the kind once more and answer an option; the words were scanned before.
 fn root_of(word: u32) -> u32
     ensures { result ≡ root_number word }
 {
@@ -68,6 +61,7 @@ fn set_lookups(vertices: &mut [VertexRow], roots: &[u32])
     ensures noted { (v : ℕ) → v < length roots.now → vertex_at vertices.new v ≡ with_lookup (root_number (slice_index roots.now v)) (vertex_at vertices.old v) }
     ensures others { (v : ℕ) → length roots.now ≤ v → vertex_at vertices.new v ≡ vertex_at vertices.old v }
 {
+    // Of `vertices.iter_mut().zip(roots)` nothing is known afterwards but the length, so the rows are written by index.
     for (n, word) in roots.iter().enumerate() {
         vertices[n].lookup = root_of(*word);
     }

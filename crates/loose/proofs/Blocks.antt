@@ -1,10 +1,11 @@
 -- The link rows of a table in order of position: its slots by position, then its virtual links; what a row stands for.
-use Rattle.std.proofs.Common.{◌≡◌, ℕ, suc, ◌+◌, ◌<◌, ◌≤◌, min, Bool, false, cond, eqb, leb, ◌⊎◌, List, [], ◌∷◌, ◌++◌, map, length, count_by, sym, refl, ap, ◌∙◌, inl, inr, ⊎_elim, arith}
+use Rattle.std.proofs.Common.{◌≡◌, ℕ, suc, ◌+◌, ◌<◌, ◌≤◌, Bool, false, cond, eqb, ◌⊎◌, List, [], ◌∷◌, ◌++◌, map, length, count_by, sym, refl, ap, ◌∙◌, subst, inl, inr, ⊎_elim, arith}
 use Rattle.std.specs.List.{ContainsAt as Has, AllByRecursion}
 use Rattle.std.specs.List.Sorted.{IsPermutation}
 use Rattle.std.proofs.lemmas.List.Sorted.{IsPermutation-sym, sum_by-IsPermutation, length_permutation}
 use Rattle.std.proofs.ByRecursion.{all_shuffled, has_shuffled}
-use Rattle.std.proofs.lemmas.Bool.{cond-true, cond-false, cases_Bool, le-leb, lt-leb, leb-true, leb-false}
+use Rattle.std.proofs.lemmas.Bool.Decides.{nat_tests}
+use Rattle.std.proofs.lemmas.List.Sums.{sum_by-cons}
 use Rattle.rows.specs.declared.LinkRow.{LinkRow}
 use Rattle.rows.specs.declared.LinkWidth.TheVariants as row
 use Rattle.words.specs.declared.Width.{Width}
@@ -13,7 +14,6 @@ use Rattle.words.specs.Grammar.{StreamLink, real, virtual, StreamTable}
 use Rattle.model.specs.Tables.{Slot, slot}
 use Rattle.model.specs.Loading.{width_of, slots_of, virtuals_of}
 use Rattle.model.proofs.LoadSame.{has_first, has_later, has_cases, has_none}
-use Rattle.model.proofs.LoadLists.{count_cons}
 use Rattle.model.proofs.LoadBack.{at_position}
 use Rattle.graph.specs.Memory.{behind_all, slot_row, virtual_rows}
 use Rattle.graph.specs.Filling.{size_of, row_width, stream_rows, insert_by, ordered, clipped, block_of}
@@ -43,30 +43,15 @@ module _ (size v : ℕ) where
 
   front_in : (r : LinkRow) (rs : List LinkRow) → AllByRecursion Behind rs → insert_by (clipped size) r rs ≡ r ∷ rs
   front_in r [] h = refl
-  front_in r (y ∷ ys) h = let k = h.0 in cond-true (leb (min r.position size) (min y.position size)) (r ∷ y ∷ ys) (y ∷ insert_by (clipped size) r ys) (le-leb (min r.position size) (min y.position size) (omega arith))
+  front_in r (y ∷ ys) h = let k = h.0 in grind (arith, nat_tests)
 
   slot_in : (l : Slot) (os : List Slot) (rs : List LinkRow) → Inside l → AllByRecursion Inside os → AllByRecursion Behind rs → insert_by (clipped size) (slot_row v l) (map (slot_row v) os ++ rs) ≡ map (slot_row v) (insert_by place l os) ++ rs
   slot_in l [] rs i h b = front_in (slot_row v l) rs b
-  slot_in l (o ∷ os) rs i h b =
-      let k = h.0 in
-      let rest = map (slot_row v) os ++ rs in
-      ⊎_elim
-      (λ e. let g = leb-true l.position o.position e in
-      cond-true (leb (min l.position size) (min o.position size)) (slot_row v l ∷ slot_row v o ∷ rest) (slot_row v o ∷ insert_by (clipped size) (slot_row v l) rest) (le-leb (min l.position size) (min o.position size) (omega arith))
-      ∙ ap (λ z. map (slot_row v) z ++ rs) (sym (cond-true (leb l.position o.position) (l ∷ o ∷ os) (o ∷ insert_by place l os) e)))
-      (λ e. let g = leb-false l.position o.position e in
-      cond-false (leb (min l.position size) (min o.position size)) (slot_row v l ∷ slot_row v o ∷ rest) (slot_row v o ∷ insert_by (clipped size) (slot_row v l) rest) (lt-leb (min l.position size) (min o.position size) (omega arith))
-      ∙ ap (λ z. slot_row v o ∷ z) (slot_in l os rs i h.1 b)
-      ∙ ap (λ z. map (slot_row v) z ++ rs) (sym (cond-false (leb l.position o.position) (l ∷ o ∷ os) (o ∷ insert_by place l os) e)))
-      (cases_Bool (leb l.position o.position))
+  slot_in l (o ∷ os) rs i h b = let k = h.0 in let e = slot_in l os rs i h.1 b in grind (arith, nat_tests)
 
   virtual_in : (r : LinkRow) (os : List Slot) (rs : List LinkRow) → Behind r → AllByRecursion Inside os → AllByRecursion Behind rs → insert_by (clipped size) r (map (slot_row v) os ++ rs) ≡ map (slot_row v) os ++ r ∷ rs
   virtual_in r [] rs i h b = front_in r rs b
-  virtual_in r (o ∷ os) rs i h b =
-      let k = h.0 in
-      let rest = map (slot_row v) os ++ rs in
-      cond-false (leb (min r.position size) (min o.position size)) (r ∷ slot_row v o ∷ rest) (slot_row v o ∷ insert_by (clipped size) r rest) (lt-leb (min r.position size) (min o.position size) (omega arith))
-      ∙ ap (λ z. slot_row v o ∷ z) (virtual_in r os rs i h.1 b)
+  virtual_in r (o ∷ os) rs i h b = let k = h.0 in let e = virtual_in r os rs i h.1 b in grind (arith, nat_tests)
 
   all_behind : (k : ℕ) (ts : List ℕ) → size ≤ behind_all → AllByRecursion Behind (virtual_rows v k ts)
   all_behind k [] h = tt
@@ -124,12 +109,9 @@ row_from_lem v k (real w p t ∷ ls) r h =
     (has_cases (record_row v w p t) (stream_rows v k ls) r h)
 row_from_lem v k (virtual t ∷ ls) r h =
     ⊎_elim
-    (λ e. inr (subst_has t r.target (virtuals_of ls) (ap (λ (x : LinkRow). x.target) e), sym (ap (λ (x : LinkRow). wide x.width) e)))
+    (λ e. inr (subst (Has (t ∷ virtuals_of ls)) (ap (λ (x : LinkRow). x.target) e) (has_first t (virtuals_of ls)), sym (ap (λ (x : LinkRow). wide x.width) e)))
     (λ i. ⊎_elim (λ f. inl f) (λ f. inr (has_later t (virtuals_of ls) r.target f.0, f.1)) (row_from_lem v (suc k) ls r i))
     (has_cases (virtual_row v k t) (stream_rows v (suc k) ls) r h)
-  where
-    subst_has : (a b : ℕ) (us : List ℕ) → a ≡ b → Has (a ∷ us) b
-    subst_has a b us e = (0, omega arith, λ d. e)
 
 pub block_from : (v : ℕ) (t : StreamTable) (r : LinkRow) → Has (block_of v t) r → ((l : Slot) × Has (slots_of t.links) l × Says l r) ⊎ (Has (virtuals_of t.links) r.target × (wide r.width ≡ 0))
 block_from v t r h = row_from_lem v 0 t.links r (has_shuffled (block_of v t) (stream_rows v 0 t.links) r (IsPermutation-sym (stream_rows v 0 t.links) (block_of v t) (block_shuffled v t)) h)
@@ -140,20 +122,9 @@ real_at p r = cond (eqb (wide r.width) 0) false (eqb r.position p)
 
 rows_count : (p v k : ℕ) (ls : List StreamLink) → count_by (real_at p) (stream_rows v k ls) ≡ count_by (at_position p) (slots_of ls)
 rows_count p v k [] = refl
-rows_count p v k (real Two q t ∷ ls) =
-    let a = count_cons (real_at p) (record_row v Two q t) (stream_rows v k ls) in
-    let b = count_cons (at_position p) (slot q 2 t) (slots_of ls) in
-    let r = rows_count p v k ls in
-    omega arith
-rows_count p v k (real Four q t ∷ ls) =
-    let a = count_cons (real_at p) (record_row v Four q t) (stream_rows v k ls) in
-    let b = count_cons (at_position p) (slot q 4 t) (slots_of ls) in
-    let r = rows_count p v k ls in
-    omega arith
-rows_count p v k (virtual t ∷ ls) =
-    let a = count_cons (real_at p) (virtual_row v k t) (stream_rows v (suc k) ls) in
-    let r = rows_count p v (suc k) ls in
-    omega arith
+rows_count p v k (real Two q t ∷ ls) = let r = rows_count p v k ls in omega (arith, sum_by-cons {X = LinkRow}, sum_by-cons {X = Slot})
+rows_count p v k (real Four q t ∷ ls) = let r = rows_count p v k ls in omega (arith, sum_by-cons {X = LinkRow}, sum_by-cons {X = Slot})
+rows_count p v k (virtual t ∷ ls) = let r = rows_count p v (suc k) ls in grind (arith, sum_by-cons {X = LinkRow})
 
 pub block_count : (p v : ℕ) (t : StreamTable) → count_by (real_at p) (block_of v t) ≡ count_by (at_position p) (slots_of t.links)
 block_count p v t = sum_by-IsPermutation (λ (r : LinkRow). cond (real_at p r) 1 0) (stream_rows v 0 t.links) (block_of v t) (block_shuffled v t) ∙ rows_count p v 0 t.links

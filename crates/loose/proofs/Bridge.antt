@@ -1,10 +1,11 @@
 -- From the memory that was filled with a stream to the stream: what the test for loose links says, and what the memory bears once there are none.
-use Rattle.std.proofs.Common.{◌≡◌, ℕ, suc, ◌+◌, ◌<◌, ◌≤◌, cond, ◌⊎◌, List, [], ◌∷◌, ◌++◌, map, length, Some, None, count_by, Option, sym, refl, ap, ◌∙◌, subst, inl, inr, ⊎_elim, arith, MatchOption}
+use Rattle.std.proofs.Common.{◌≡◌, ℕ, suc, ◌+◌, ◌<◌, ◌≤◌, cond, ◌⊎◌, List, [], ◌∷◌, map, length, Some, None, count_by, Option, sym, refl, ap, ◌∙◌, subst, inl, inr, ⊎_elim, arith, MatchOption}
 use Rattle.std.specs.List.{ContainsAt as Has, AllByRecursion}
 use Rattle.std.specs.List.Sorted.{IsPermutation}
 use Rattle.std.proofs.ByRecursion.{All-append, All-weaker, All-get_or, all-has, all_has_itself, all_shuffled}
 use Rattle.std.proofs.lemmas.List.Sorted.{IsPermutation-sym, sum_by-IsPermutation}
 use Rattle.std.proofs.lemmas.Bool.{cases_lt}
+use Rattle.std.proofs.lemmas.Option.{slice_get_within}
 use Rattle.rows.specs.declared.LinkRow.{LinkRow}
 use Rattle.rows.specs.Kinds.{zero_link}
 use Rattle.words.specs.declared.Width.TheVariants.{Two, Four}
@@ -14,17 +15,19 @@ use Rattle.model.specs.Tables.{Slot, Table}
 use Rattle.model.specs.Rules.{nth}
 use Rattle.model.specs.Loading.{slots_of, bytes_of, TableAt, Loose, nowhere, nowhere_virtual, beyond, shared, Loosely, Lowest, Never}
 use Rattle.model.proofs.Lists.{all-nth}
-use Rattle.model.proofs.LoadLists.{nth_below, nth_there}
+use Rattle.model.proofs.LoadLists.{nth_there}
 use Rattle.model.proofs.LoadSame.{Up}
 use Rattle.model.proofs.LoadBack.{at_position}
+use Rattle.model.proofs.LoadShapes.{strict}
 use Rattle.graph.specs.declared.VertexRow.{VertexRow}
 use Rattle.graph.specs.Memory.{Memory, behind_all, vertex_at, table_rows, flat, Bears, Tight, bares}
 use Rattle.graph.specs.Filling.{size_of, filled_rows, filled_bytes, ordered, block_of, blocks_from, table_for}
+use Rattle.graph.proofs.Laid.{rows_along}
 use Rattle.loose.specs.Faults.{Faultless, FirstFault, Owned}
 use Rattle.loose.proofs.Order.{ordered_shuffled, ordered_rise}
 use Rattle.loose.proofs.Scan.{free_all, stops_first}
 use Rattle.loose.proofs.Blocks.{place, block_is, block_from}
-use Rattle.loose.proofs.Judging.{strict_up, Sized, free_never, stops_found}
+use Rattle.loose.proofs.Judging.{Sized, free_never, stops_found}
 use Rattle.loose.proofs.Standing.{length_vertices, stands, blocks_owned}
 
 -- a table's slots once nothing is loose
@@ -73,7 +76,7 @@ module _ (s : Stream) (t : StreamTable) (below : size_of t < behind_all) (tight 
   pub firm : Firm (table_for t)
   firm =
       record {
-        up = strict_up 0 (ordered place (slots_of t.links)) (ordered_rise place (slots_of t.links)) (λ p.
+        up = strict 0 (ordered place (slots_of t.links)) (ordered_rise place (slots_of t.links)) (λ p.
             let e : count_by (at_position p) (ordered place (slots_of t.links)) ≡ count_by (at_position p) (slots_of t.links) = sum_by-IsPermutation (λ (l : Slot). cond (at_position p l) 1 0) (slots_of t.links) (ordered place (slots_of t.links)) (ordered_shuffled place (slots_of t.links)) in
             ⊎_elim (λ g. absurd (tight (shared p g))) (λ g. omega arith) (cases_lt 1 (count_by (at_position p) (slots_of t.links))));
         widths = on (λ (l : Slot). (l.width ≡ 2) ⊎ (l.width ≡ 4)) (slot_widths t.links);
@@ -102,10 +105,6 @@ module _ (s : Stream) (t : StreamTable) (below : size_of t < behind_all) (tight 
 blocks_all : (P : LinkRow → Type 0) (v : ℕ) (ts : List StreamTable) → ((u k : ℕ) (t : StreamTable) → nth ts k ≡ Some t → AllByRecursion P (block_of u t)) → AllByRecursion P (blocks_from v ts)
 blocks_all P v [] h = tt
 blocks_all P v (t ∷ ts) h = All-append P (block_of v t) (blocks_from (suc v) ts) (h v 0 t refl) (blocks_all P (suc v) ts (λ u k x e. h u (suc k) x e))
-
-blocks_same : (v : ℕ) (ts : List StreamTable) → ((u k : ℕ) (t : StreamTable) → nth ts k ≡ Some t → block_of u t ≡ table_rows u (table_for t)) → blocks_from v ts ≡ flat v (map table_for ts)
-blocks_same v [] h = refl
-blocks_same v (t ∷ ts) h = ap (λ z. z ++ blocks_from (suc v) ts) (h v 0 t refl) ∙ ap (λ z. table_rows v (table_for t) ++ z) (blocks_same (suc v) ts (λ u k x e. h u (suc k) x e))
 
 -- MEMORY FILLED WITH A STREAM
 module _ (s : Stream) (fine : Uncounted s) (vs : List VertexRow) (filled : bares vs ≡ bares (filled_rows 0 0 0 s.tables)) where
@@ -162,13 +161,13 @@ module _ (s : Stream) (fine : Uncounted s) (vs : List VertexRow) (filled : bares
     table_block v t h = block_rows s t (small s fine v t h) (λ x. never v (t, h, x)) v
 
     pub all_blocks : blocks_from 0 s.tables ≡ flat 0 (map table_for s.tables)
-    all_blocks = blocks_same 0 s.tables (λ u k t h. block_rows s t (small s fine k t h) (λ x. never k (t, h, x)) u)
+    all_blocks = rows_along s.tables 0 (λ k t h. block_rows s t (small s fine k t h) (λ x. never k (t, h, x)) (0 + k))
 
     pub table_borne : (v : ℕ) (t : StreamTable) → TableAt s v t → Bears filled_memory v (table_for t)
     table_borne v t h =
         let x = stands vs s.tables v t filled h in
         let n = count in
-        let k = nth_below s.tables v t h in
+        let k = slice_get_within s.tables v t h in
         record {
           below = omega arith;
           within = record { part = x.part; rows = x.links };

@@ -1,22 +1,20 @@
 -- Faulty rows in the blocks of a stream's tables are loose links, and the first of them is one of the lowest loose vertex.
-use Rattle.std.proofs.Common.{◌≡◌, ℕ, zero, suc, ◌+◌, ◌<◌, ◌≤◌, false, cond, eqb, ◌⊎◌, List, [], ◌∷◌, map, length, Some, None, count_by, Option, sym, refl, ap, ◌∙◌, subst, inl, inr, ⊎_elim, arith}
+use Rattle.std.proofs.Common.{◌≡◌, ℕ, zero, suc, ◌+◌, ◌<◌, ◌≤◌, cond, ◌⊎◌, List, [], ◌∷◌, map, length, Some, None, count_by, Option, sym, refl, ap, ◌∙◌, subst, inl, inr, ⊎_elim, arith}
 use Rattle.std.specs.List.{ContainsAt as Has, AllByRecursion}
 use Rattle.std.proofs.ByRecursion.{all-has, All-weaker}
 use Rattle.std.proofs.lemmas.List.Sorted.{sum_by-IsPermutation}
-use Rattle.std.proofs.lemmas.Bool.{cases_lt, cases_eq, cond_both, eq-eqb, ne_eqb, cond-false}
+use Rattle.std.proofs.lemmas.Bool.{cases_eq}
+use Rattle.std.proofs.lemmas.Bool.Decides.{nat_tests}
+use Rattle.std.proofs.lemmas.List.Sums.{sum_by-cons}
 use Rattle.rows.specs.declared.LinkRow.{LinkRow}
-use Rattle.rows.specs.declared.LinkWidth.TheVariants as row
 use Rattle.words.specs.Grammar.{StreamTable, Stream}
-use Rattle.words.proofs.Saying.{none_some}
 use Rattle.data_bytes.proofs.ValueLists.{length-value_bytes}
 use Rattle.model.specs.Tables.{Slot}
 use Rattle.model.specs.Rules.{nth}
 use Rattle.model.specs.Loading.{slots_of, virtuals_of, bytes_of, Loose, nowhere, nowhere_virtual, beyond, shared}
-use Rattle.model.proofs.Lists.{one, one_same, one_other, some_same}
 use Rattle.model.proofs.LoadSame.{Up, has_first, has_later}
 use Rattle.model.proofs.LoadLists.{count_cons}
 use Rattle.model.proofs.LoadBack.{at_position}
-use Rattle.model.proofs.LoadShapes.{Rise as RiseByPosition, strict}
 use Rattle.graph.specs.declared.VertexRow.{VertexRow}
 use Rattle.graph.specs.Memory.{behind_all, vertex_at, slot_row, virtual_rows}
 use Rattle.graph.specs.Filling.{size_of, ordered, block_of, blocks_from}
@@ -28,57 +26,39 @@ use Rattle.loose.proofs.Blocks.{place, block_is, block_owners, block_from, real_
 
 -- SLOTS THAT RISE
 slot_wide : (v : ℕ) (l : Slot) → 0 < wide (slot_row v l).width
-slot_wide v l = cond_both (eqb l.width 4) row.Four row.Two (λ w. 0 < wide w) (λ e. omega arith) (λ e. omega arith)
+slot_wide v l = grind (arith, nat_tests)
 
 -- no position comes twice
 none_below : (p a : ℕ) (ls : List Slot) → p < a → Up a ls → count_by (at_position p) ls ≡ 0
 none_below p a [] h u = refl
-none_below p a (l ∷ ls) h u =
-    let k = u.0 in
-    let c = count_cons (at_position p) l ls in
-    let z = one_other l.position p (λ e. omega arith) in
-    let r = none_below p (suc l.position) ls (omega arith) u.1 in
-    omega arith
+none_below p a (l ∷ ls) h u = let k = u.0 in let r = none_below p (suc l.position) ls (omega arith) u.1 in grind (arith, nat_tests, sum_by-cons {X = Slot})
 
 pub up_count : (p a : ℕ) (ls : List Slot) → Up a ls → count_by (at_position p) ls ≤ 1
 up_count p a [] u = omega arith
 up_count p a (l ∷ ls) u =
-    let c = count_cons (at_position p) l ls in
+    let c = sum_by-cons (λ (x : Slot). cond (at_position p x) 1 0) l ls in
     ⊎_elim
-    (λ e. let z = one_same l.position p e in let r = none_below p (suc l.position) ls (omega arith) u.1 in omega arith)
-    (λ o. let z = one_other l.position p o in let r = up_count p (suc l.position) ls u.1 in omega arith)
+    (λ e. let r = none_below p (suc l.position) ls (omega arith) u.1 in grind (arith, nat_tests))
+    (λ o. let r = up_count p (suc l.position) ls u.1 in grind (arith, nat_tests))
     (cases_eq l.position p)
-
-by_position : (a : ℕ) (ls : List Slot) → Rise place a ls → RiseByPosition a ls
-by_position a [] r = tt
-by_position a (l ∷ ls) r = (r.0, by_position l.position ls r.1)
-
-pub strict_up : (a : ℕ) (ls : List Slot) → Rise place a ls → ((p : ℕ) → count_by (at_position p) ls ≤ 1) → Up a ls
-strict_up a ls r h = strict a ls (by_position a ls r) h
 
 module _ (vs : List VertexRow) where
   -- ROWS WITHOUT A FAULT
   free_fit : (b : Option LinkRow) (rows : List LinkRow) (v size : ℕ) → AllByRecursion (λ (r : LinkRow). r.owner ≡ v) rows → (vertex_at vs v).size ≡ size → Free vs b rows → AllByRecursion (Fit (length vs) size) rows
   free_fit b [] v size o e f = tt
   free_fit b (r ∷ rs) v size o e f =
-      let n : (vertex_at vs r.owner).size ≡ size = ap (λ u. (vertex_at vs u).size) o.0 ∙ e in (
-        (
-          ⊎_elim (λ l. l) (λ l. absurd (f.0 (fault.nowhere l))) (cases_lt r.target (length vs)),
-          λ w. ⊎_elim (λ l. absurd (f.0 (fault.beyond w (omega arith)))) (λ l. l) (cases_lt size (r.position + wide r.width)),
-        ),
-        free_fit (Some r) rs v size o.1 e f.1,
-      )
+      let n : (vertex_at vs r.owner).size ≡ size = ap (λ u. (vertex_at vs u).size) o.0 ∙ e in
+      let t : length vs ≤ r.target → ⊥ = λ l. f.0 (fault.nowhere l) in
+      let p : 0 < wide r.width → (vertex_at vs r.owner).size < r.position + wide r.width → ⊥ = λ w l. f.0 (fault.beyond w l) in
+      ((omega arith, λ w. omega (arith, p w)), free_fit (Some r) rs v size o.1 e f.1)
 
   free_up : (b : Option LinkRow) (v a : ℕ) (os : List Slot) → Free vs b (map (slot_row v) os) → Rise place a os → Up a os
   free_up b v a [] f r = tt
   free_up b v a (x ∷ []) f r = (r.0, tt)
   free_up b v a (x ∷ y ∷ ys) f r =
-      let k : suc x.position ≤ y.position =
-      ⊎_elim
-      (λ l. l)
-      (λ l. let e : x.position ≡ y.position = let q = r.1.0 in omega arith in absurd (f.1.0 (fault.twins (slot_wide v x, slot_wide v y, refl, e))))
-      (cases_lt x.position y.position) in
-      (r.0, free_up (Some (slot_row v x)) v (suc x.position) (y ∷ ys) f.1 (k, r.1.1))
+      let q = r.1.0 in
+      let n : x.position ≡ y.position → ⊥ = λ e. f.1.0 (fault.twins (slot_wide v x, slot_wide v y, refl, e)) in
+      (r.0, free_up (Some (slot_row v x)) v (suc x.position) (y ∷ ys) f.1 (omega arith, r.1.1))
 
   -- A FAULT AMONG ROWS: in one of them, or two real ones at one position
   abbrev Torn : ℕ → LinkRow → Type 0
@@ -94,40 +74,30 @@ module _ (vs : List VertexRow) where
       (λ f. let c = count_cons (real_at f.0) q rows in let k = f.1 in inr (f.0, omega arith))
       h
 
-  real_one : (r : LinkRow) (p : ℕ) → 0 < wide r.width → r.position ≡ p → one (real_at p r) ≡ 1
-  real_one r p w e = ap one (cond-false (eqb (wide r.width) 0) false (eqb r.position p) (ne_eqb (wide r.width) 0 (λ z. omega arith)) ∙ eq-eqb r.position p e)
+  at_first : (size v : ℕ) (b : Option LinkRow) (r : LinkRow) (rs : List LinkRow) → r.owner ≡ v → (vertex_at vs v).size ≡ size → Wrong vs b r → Twins b r ⊎ Among size (r ∷ rs)
+  at_first size v b r rs o e (fault.nowhere l) = inr (inl (r, has_first r rs, inl l))
+  at_first size v b r rs o e (fault.beyond w l) = let n : (vertex_at vs r.owner).size ≡ size = ap (λ u. (vertex_at vs u).size) o ∙ e in inr (inl (r, has_first r rs, inr (w, omega arith)))
+  at_first size v b r rs o e (fault.twins t) = inl t
 
-  at_first : (size v : ℕ) (b : Option LinkRow) (r : LinkRow) (rs : List LinkRow) → (Twins b r → Among size (r ∷ rs)) → r.owner ≡ v → (vertex_at vs v).size ≡ size → Wrong vs b r → Among size (r ∷ rs)
-  at_first size v b r rs t o e (fault.nowhere l) = inl (r, has_first r rs, inl l)
-  at_first size v b r rs t o e (fault.beyond w l) = let n : (vertex_at vs r.owner).size ≡ size = ap (λ u. (vertex_at vs u).size) o ∙ e in inl (r, has_first r rs, inr (w, omega arith))
-  at_first size v b r rs t o e (fault.twins h) = t h
+  two : (size : ℕ) (q r : LinkRow) (rs : List LinkRow) → Twins (Some q) r → Among size (q ∷ r ∷ rs)
+  two size q r rs t =
+      let a = count_cons (real_at r.position) q (r ∷ rs) in
+      let b = count_cons (real_at r.position) r rs in
+      inr (r.position, grind (arith, nat_tests))
 
   stops_among : (size v u : ℕ) (q : LinkRow) (rs : List LinkRow) → AllByRecursion (λ (r : LinkRow). r.owner ≡ v) rs → (vertex_at vs v).size ≡ size → Stops vs (Some q) rs u → (u ≡ v) × Among size (q ∷ rs)
   stops_among size v u q [] o e s = absurd s
   stops_among size v u q (r ∷ rs) o e s =
       ⊎_elim
-      (λ f. (sym f.1 ∙ o.0, wrong f.0))
+      (λ f. (sym f.1 ∙ o.0, ⊎_elim (two size q r rs) (among_more size q (r ∷ rs)) (at_first size v (Some q) r rs o.0 e f.0)))
       (λ n. let i = stops_among size v u r rs o.1 e n.1 in (i.0, among_more size q (r ∷ rs) i.1))
       s
-    where
-      two : Twins (Some q) r → Among size (q ∷ r ∷ rs)
-      two t =
-          let a = count_cons (real_at r.position) q (r ∷ rs) in
-          let b = count_cons (real_at r.position) r rs in
-          let x = real_one q r.position t.0 t.3 in
-          let y = real_one r r.position t.1 refl in
-          inr (r.position, omega arith)
-
-      wrong : Wrong vs (Some q) r → Among size (q ∷ r ∷ rs)
-      wrong (fault.nowhere l) = inl (r, has_later q (r ∷ rs) r (has_first r rs), inl l)
-      wrong (fault.beyond w l) = let n : (vertex_at vs r.owner).size ≡ size = ap (λ x. (vertex_at vs x).size) o.0 ∙ e in inl (r, has_later q (r ∷ rs) r (has_first r rs), inr (w, omega arith))
-      wrong (fault.twins t) = two t
 
   stops_in : (size v u : ℕ) (b : Option LinkRow) (rows : List LinkRow) → Lower b v → AllByRecursion (λ (r : LinkRow). r.owner ≡ v) rows → (vertex_at vs v).size ≡ size → Stops vs b rows u → (u ≡ v) × Among size rows
   stops_in size v u b [] l o e s = absurd s
   stops_in size v u b (r ∷ rs) l o e s =
       ⊎_elim
-      (λ f. (sym f.1 ∙ o.0, at_first size v b r rs (λ t. absurd (apart b l t)) o.0 e f.0))
+      (λ f. (sym f.1 ∙ o.0, ⊎_elim (λ t. absurd (apart b l t)) (λ a. a) (at_first size v b r rs o.0 e f.0)))
       (λ n. stops_among size v u r rs o.1 e n.1)
       s
     where
@@ -188,8 +158,8 @@ module _ (vs : List VertexRow) where
     Sized v (t ∷ ts) = ((vertex_at vs v).size ≡ size_of t) × (size_of t ≤ behind_all) × Sized (suc v) ts
 
     pub free_never : (b : Option LinkRow) (v : ℕ) (ts : List StreamTable) → Sized v ts → Free vs b (blocks_from v ts) → (k : ℕ) (t : StreamTable) → nth ts k ≡ Some t → Loose s t → ⊥
-    free_never b v [] z f k t e x = none_some e
-    free_never b v (y ∷ ts) z f zero t e x = free_tight b v y z.0 z.1 (free_split vs b (block_of v y) (blocks_from (suc v) ts) f).0 (subst (Loose s) (sym (some_same e)) x)
+    free_never b v [] z f k t e x = cc
+    free_never b v (y ∷ ts) z f zero t e x = free_tight b v y z.0 z.1 (free_split vs b (block_of v y) (blocks_from (suc v) ts) f).0 (subst (Loose s) (cc) x)
     free_never b v (y ∷ ts) z f (suc k) t e x = free_never (last b (block_of v y)) (suc v) ts z.2 (free_split vs b (block_of v y) (blocks_from (suc v) ts) f).1 k t e x
 
     pub record Found (v : ℕ) (ts : List StreamTable) (u : ℕ) : Type 0 where
@@ -214,7 +184,7 @@ module _ (vs : List VertexRow) where
             record { number = 0; vertex = omega arith; table = y; there = refl; loose = i.1; lower = λ j k t a c. absurd (omega arith) }
 
         before : Free vs b (block_of v y) → (n : ℕ) → ((j : ℕ) → j < n → (t : StreamTable) → nth ts j ≡ Some t → Loose s t → ⊥) → (j : ℕ) → j < suc n → (t : StreamTable) → nth (y ∷ ts) j ≡ Some t → Loose s t → ⊥
-        before f n g zero k t a c = free_tight b v y z.0 z.1 f (subst (Loose s) (sym (some_same a)) c)
+        before f n g zero k t a c = free_tight b v y z.0 z.1 f (subst (Loose s) (cc) c)
         before f n g (suc j) k t a c = g j (omega arith) t a c
 
         later : Free vs b (block_of v y) → Found (suc v) ts u → Found v (y ∷ ts) u

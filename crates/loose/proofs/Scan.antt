@@ -1,13 +1,10 @@
 -- Faults by the rest of the rows: none, or a first one.
-use Rattle.std.proofs.Common.{◌≡◌, ℕ, zero, suc, ◌+◌, ◌<◌, ◌⊎◌, List, [], ◌∷◌, ◌++◌, length, Some, None, Option, sym, ap, inl, inr, ⊎_elim, add-one, arith}
+use Rattle.std.proofs.Common.{◌≡◌, ℕ, zero, suc, ◌<◌, ◌⊎◌, List, [], ◌∷◌, ◌++◌, length, Some, None, Option, inl, inr, ⊎_elim, arith}
 use Rattle.std.specs.List.{AllByRecursion}
 use Rattle.rows.specs.declared.LinkRow.{LinkRow}
 use Rattle.graph.specs.declared.VertexRow.{VertexRow}
 use Rattle.graph.specs.Memory.{vertex_at}
-use Rattle.loose.specs.Faults.{row_at, row_before, Fault, Faulty, Faultless, FirstFault}
-
-pub before_more : (rows : List LinkRow) (i : ℕ) → Some (row_at rows i) ≡ row_before rows (i + 1)
-before_more rows i = ap (row_before rows) (sym (add-one i))
+use Rattle.loose.specs.Faults.{row_at, Fault, Faulty, Faultless, FirstFault}
 
 -- the row that stands in front of rows behind xs
 abbrev pub last : Option LinkRow → List LinkRow → Option LinkRow

@@ -2,15 +2,13 @@
 use Rattle.std.proofs.Common.{◌≡◌, ℕ, zero, suc, ◌+◌, ◌<◌, ◌≤◌, List, [], ◌∷◌, ◌++◌, length, get_or, take, drop, Some, sym, refl, ap, ◌∙◌, subst, arith}
 use Rattle.std.specs.List.{AllByRecursion}
 use Rattle.std.proofs.lemmas.List.{append_assoc, length-append, length-map, get_or-map, take_at, drop_at}
+use Rattle.std.proofs.lemmas.Option.{slice_get_within}
 use Rattle.std.proofs.ByRecursion.{All-append, All-weaker}
 use Rattle.rows.specs.declared.LinkRow.{LinkRow}
 use Rattle.words.specs.Grammar.{StreamTable}
-use Rattle.words.proofs.Saying.{none_some}
 use Rattle.data_bytes.specs.Values.{value_bytes}
 use Rattle.data_bytes.proofs.ValueLists.{length-value_bytes}
 use Rattle.model.specs.Rules.{nth}
-use Rattle.model.proofs.Lists.{some_same}
-use Rattle.model.proofs.LoadLists.{nth_below}
 use Rattle.graph.specs.declared.VertexRow.{VertexRow}
 use Rattle.graph.specs.Memory.{zero_vertex, vertex_at, bare, bares}
 use Rattle.graph.specs.Filling.{size_of, link_words, filled_rows, filled_bytes, block_of, blocks_from}
@@ -51,11 +49,11 @@ first_stands a b q n t ts p w e f =
 
 stands_from : (a b q n v : ℕ) (ts : List StreamTable) (t : StreamTable) (p : List ℕ) (w : List LinkRow) → nth ts v ≡ Some t → length p ≡ a → length w ≡ b
     → Stands (bare (vertex_at (filled_rows a b q ts) v)) (p ++ filled_bytes ts) (w ++ blocks_from n ts) (n + v) t
-stands_from a b q n v [] t p w h e f = absurd (none_some h)
+stands_from a b q n v [] t p w h e f = cc
 stands_from a b q n zero (y ∷ ts) t p w h e f =
     let z : n ≡ n + 0 = omega arith in
     subst (λ k. Stands (bare (vertex_at (filled_rows a b q (y ∷ ts)) 0)) (p ++ filled_bytes (y ∷ ts)) (w ++ blocks_from n (y ∷ ts)) k t) z
-    (subst (Stands (bare (vertex_at (filled_rows a b q (y ∷ ts)) 0)) (p ++ filled_bytes (y ∷ ts)) (w ++ blocks_from n (y ∷ ts)) n) (some_same h) (first_stands a b q n y ts p w e f))
+    (subst (Stands (bare (vertex_at (filled_rows a b q (y ∷ ts)) 0)) (p ++ filled_bytes (y ∷ ts)) (w ++ blocks_from n (y ∷ ts)) n) (cc) (first_stands a b q n y ts p w e f))
 stands_from a b q n (suc v) (y ∷ ts) t p w h e f =
     let z : suc n + v ≡ n + suc v = omega arith in
     let row = bare (vertex_at (filled_rows (a + size_of y) (b + length y.links) (q + (1 + length y.values + link_words y)) ts) v) in
@@ -78,7 +76,7 @@ pub stands : (vs : List VertexRow) (ts : List StreamTable) (v : ℕ) (t : Stream
 stands vs ts v t e h =
     let z : 0 + v ≡ v = omega arith in
     subst (λ k. Stands (bare (vertex_at vs v)) (filled_bytes ts) (blocks_from 0 ts) k t) z
-    (subst (λ r. Stands r (filled_bytes ts) (blocks_from 0 ts) (0 + v) t) (bare_same vs ts v e (nth_below ts v t h)) (stands_from 0 0 0 0 v ts t [] [] h refl refl))
+    (subst (λ r. Stands r (filled_bytes ts) (blocks_from 0 ts) (0 + v) t) (bare_same vs ts v e (slice_get_within ts v t h)) (stands_from 0 0 0 0 v ts t [] [] h refl refl))
 
 -- OWNERS of all rows
 pub blocks_owned : (v : ℕ) (ts : List StreamTable) → AllByRecursion (λ (r : LinkRow). r.owner < v + length ts) (blocks_from v ts)
