@@ -1,7 +1,8 @@
 -- Spelling a number in bytes and reading it, at every width.
 use Rattle.std.proofs.Common.{◌≡◌, ℕ, zero, suc, ◌+◌, ◌*◌, ◌/◌, ◌%◌, ◌^◌, ◌<◌, ◌≤◌, List, [], ◌∷◌, ◌++◌, length, get_or, take, sym, refl, ap, ◌∙◌, ⊎_elim, div-lt_iff_lt-mul, pow-suc, div-add-mod', add-one, arith, lit<}
-use lib.Arith.{digits_div, digits_mod, digits_lt}
-use Rattle.std.proofs.lemmas.Int.Digits.{number_push}
+use lib.Arith.{digits_div, digits_mod}
+use Rattle.std.proofs.ByRecursion.{All-from_get_or}
+use Rattle.std.proofs.lemmas.Int.Digits.{number_lt, number_more, number_push}
 use Rattle.std.proofs.lemmas.List.{length_push, length-take-le, take_more, take_all, get_or-take, get_or_append_left, get_or_push}
 use Rattle.std.proofs.lemmas.Bool.{cases_lt}
 use Rattle.data_bytes.specs.BigEndian.{Bytes, big_endian, spelled}
@@ -40,7 +41,7 @@ bytes_take w bs le all k l =
     rw get_or-take (all k (omega arith))
 
 number_last : (w : ℕ) (bs : List ℕ) → length bs ≡ suc w → big_endian bs ≡ big_endian (take w bs) * 256 + get_or bs w 0
-number_last w bs e = ap big_endian (last_apart w bs e) ∙ number_push 256 (take w bs) (get_or bs w 0)
+number_last w bs e = ap big_endian (sym (take_all (w + 1) bs (omega arith))) ∙ number_more 256 bs w (omega arith)
 
 pub spelled_again : (w : ℕ) (bs : List ℕ) → length bs ≡ w → Bytes bs → spelled w (big_endian bs) ≡ bs
 spelled_again zero [] e all = refl
@@ -55,10 +56,4 @@ spelled_again (suc w) bs e all =
     ∙ (ap (λ ks. ks ++ (get_or bs w 0 ∷ [])) front ∙ sym (last_apart w bs e)))
 
 pub number_under : (w : ℕ) (bs : List ℕ) → length bs ≡ w → Bytes bs → big_endian bs < 256 ^ w
-number_under zero [] e all = lit< tt
-number_under zero (b ∷ bs) e all = absurd (omega arith)
-number_under (suc w) bs e all =
-    let front = number_under w (take w bs) (length-take-le w bs (omega arith)) (bytes_take w bs (omega arith) all) in
-    let n = number_last w bs e in
-    let less = digits_lt front (all w (omega arith)) in
-    rw pow-suc (omega arith)
+number_under w bs e all = rw e at (number_lt 256 bs (All-from_get_or (λ b. b < 256) bs 0 all))

@@ -161,61 +161,55 @@ const LONGS: [Spot<u32>; 12] = [
     },
 ];
 
-fn through_view<T: Scalar + PartialEq>(spot: &Spot<T>, bytes: &mut [u8]) -> bool {
-    let back = if spot.held.is_some() {
-        Some(spot.value)
-    } else {
-        None
-    };
-    let mut view = DataBytes::new(bytes);
-    view.len() == 8
-        && view.read_at::<T>(spot.at) == spot.held
-        && view.write_at(spot.value, spot.at) == spot.held.is_some()
-        && view.read_at::<T>(spot.at) == back
-}
+impl<T: Scalar + PartialEq> Spot<T> {
+    // What is read there after the write.
+    fn back(&self) -> Option<T> {
+        self.held.and(Some(self.value))
+    }
 
-fn plainly<T: Scalar + PartialEq>(spot: &Spot<T>, bytes: &mut [u8]) -> bool {
-    let back = if spot.held.is_some() {
-        Some(spot.value)
-    } else {
-        None
-    };
-    T::read(bytes, spot.at) == spot.held
-        && spot.value.write(bytes, spot.at) == spot.held.is_some()
-        && T::read(bytes, spot.at) == back
-}
+    fn through_view(&self, bytes: &mut [u8]) -> bool {
+        let mut view = DataBytes::new(bytes);
+        view.len() == 8
+            && view.read_at::<T>(self.at) == self.held
+            && view.write_at(self.value, self.at).is_some() == self.held.is_some()
+            && view.read_at::<T>(self.at) == self.back()
+    }
 
-fn both_ways<T: Scalar + PartialEq>(spot: &Spot<T>) -> bool {
-    let mut viewed = START;
-    let mut plain = START;
-    through_view(spot, &mut viewed)
-        && is_laid(&viewed, spot.after, 0)
-        && plainly(spot, &mut plain)
-        && is_laid(&plain, spot.after, 0)
+    fn plainly(&self, bytes: &mut [u8]) -> bool {
+        T::read(bytes, self.at) == self.held
+            && self.value.write(bytes, self.at).is_some() == self.held.is_some()
+            && T::read(bytes, self.at) == self.back()
+    }
+
+    fn both_ways(&self) -> bool {
+        let mut viewed = START;
+        let mut plain = START;
+        self.through_view(&mut viewed)
+            && is_laid(&viewed, self.after, 0)
+            && self.plainly(&mut plain)
+            && is_laid(&plain, self.after, 0)
+    }
 }
 
 // Whether a scalar is read from fewer bytes exactly where all of its own are there.
 fn in_fewer<T: Scalar>(bytes: &[u8], width: usize) -> bool {
-    for at in 0..9 {
+    (0..9).all(|at| {
         let is_there = width <= bytes.len() && at <= bytes.len() - width;
-        if T::read(bytes, at).is_some() != is_there {
-            return false;
-        }
-    }
-    true
+        T::read(bytes, at).is_some() == is_there
+    })
 }
 
 #[test]
 fn scalars_stand_in_bytes(rt: HostRuntime) {
     for spot in WORDS.iter() {
-        assert!(rt; both_ways(spot), "{}", spot.at);
+        assert!(rt; spot.both_ways(), "{}", spot.at);
     }
     for spot in LONGS.iter() {
-        assert!(rt; both_ways(spot), "{}", spot.at);
+        assert!(rt; spot.both_ways(), "{}", spot.at);
     }
-    for count in 0..9 {
+    for count in 0..=START.len() {
         assert!(rt;
-            in_fewer::<u16>(&START[0..count], 2) && in_fewer::<u32>(&START[0..count], 4),
+            in_fewer::<u16>(&START[..count], 2) && in_fewer::<u32>(&START[..count], 4),
             "{}",
             count
         );

@@ -510,39 +510,19 @@ const REFUSED: [Rejected; 50] = [
     },
 ];
 
-fn accepts(words: &[u32], counts: StreamCounts) -> bool {
-    match scan(words) {
-        Ok(found) => {
-            found.tables == counts.tables
-                && found.links == counts.links
-                && found.bytes == counts.bytes
-                && found.roots == counts.roots
-        }
-        Err(_) => false,
-    }
-}
-
 fn refuses(words: &[u32], index: usize) -> bool {
-    match scan(words) {
-        Ok(_) => false,
-        Err(refusal) => refusal.number() == 1 && refusal.value() == index as u64,
-    }
+    scan(words) == Err(Refusal::BadWord { index })
 }
 
 // A good stream that stops too soon is refused at its end, wherever it stops.
 fn refuses_fronts(words: &[u32]) -> bool {
-    for n in 0..words.len() {
-        if !refuses(&words[0..n], n) {
-            return false;
-        }
-    }
-    true
+    (0..words.len()).all(|n| refuses(&words[..n], n))
 }
 
 #[test]
 fn streams_are_judged(rt: HostRuntime) {
     for case in READ.iter() {
-        let is_right = accepts(case.words, case.counts) && refuses_fronts(case.words);
+        let is_right = scan(case.words) == Ok(case.counts) && refuses_fronts(case.words);
         assert!(rt; is_right, "{}", case.name);
     }
     for case in REFUSED.iter() {

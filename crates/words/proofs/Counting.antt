@@ -45,7 +45,7 @@ same_counts : (t l b r t' l' b' r' : ℕ) → t ≡ t' → l ≡ l' → b ≡ b'
 same_counts t l b r t' l' b' r' e f g h = cc
 
 -- AT THE START
-abbrev pub fresh : Reading
+abbrev fresh : Reading
 fresh = record { place = Start; counts = record { tables = 0; links = 0; bytes = 0; roots = 0 } }
 
 begun : (ws : List ℕ) (x : Result Rest ℕ) → Told ws Start 0 x → totalled fresh.counts 0 x ≡ scanned_as (stream_of x)
@@ -55,8 +55,14 @@ begun ws (Ok r) h =
     ap Ok (same_counts _ _ _ _ _ _ _ _ (omega arith) (omega arith) (omega arith) (omega arith))
 begun ws (Err i) h = ap (λ k. Err (BadWord k)) (omega arith)
 
-pub at_start : (ws : List ℕ) → Far ws 0 fresh
-at_start ws = record { so = begun ws (read ws Start 0) (told ws Start 0); tables = omega arith; links = omega arith; bytes = omega arith; roots = omega arith }
+is_fresh : (p : Place) (t l b r : ℕ) → p ≡ Start → t ≡ 0 → l ≡ 0 → b ≡ 0 → r ≡ 0 → record { place = p; counts = count4 t l b r } ≡ fresh
+is_fresh p t l b r e f g h i = cc
+
+at_fresh : (ws : List ℕ) → Far ws 0 fresh
+at_fresh ws = record { so = begun ws (read ws Start 0) (told ws Start 0); tables = omega arith; links = omega arith; bytes = omega arith; roots = omega arith }
+
+pub at_start : (ws : List ℕ) (d : Reading) → (d.place ≡ Start) × ((d.counts.tables ≡ 0) × ((d.counts.links ≡ 0) × ((d.counts.bytes ≡ 0) × (d.counts.roots ≡ 0)))) → Far ws 0 d
+at_start ws d e = subst (Far ws 0) (sym (is_fresh _ _ _ _ _ e.0 e.1.0 e.1.1.0 e.1.1.1.0 e.1.1.1.1)) (at_fresh ws)
 
 -- ONE WORD MORE
 one_total : (k : WordKind) (m : ℕ) (p q : Place) (n : ℕ) → place_after k m p n ≡ Some q → (c : StreamCounts) (r : Rest) → total c (word_then k m p r) ≡ total (counted k c) r
@@ -79,14 +85,7 @@ one_totalled k m p q n e c i (Ok r) = ap Ok (one_total k m p q n e c r)
 one_totalled k m p q n e c i (Err j) = ap (λ x. Err (BadWord x)) (omega arith)
 
 with_tables : (k : WordKind) (c : StreamCounts) → tables_with k c.tables ≡ (counted k c).tables
-with_tables Table c = refl
-with_tables Value c = refl
-with_tables Link2 c = refl
-with_tables Link4 c = refl
-with_tables Target c = refl
-with_tables Virtual c = refl
-with_tables Root c = refl
-with_tables Count c = refl
+with_tables k c = grind arith
 
 module _ (i : ℕ) (ws : List ℕ) (d e : Reading) where
   to_place : (t : Token) (o : Option Place) → next_place d.place d.counts.tables t ≡ o → stepped_to t.kind d.counts o ≡ Some e
@@ -110,14 +109,7 @@ record Grown (c d : StreamCounts) : Type 0 where
   roots : d.roots ≤ c.roots + 1
 
 grown_by : (k : WordKind) (c : StreamCounts) → Grown c (counted k c)
-grown_by Table c = record { tables = omega arith; links = omega arith; bytes = omega arith; roots = omega arith }
-grown_by Value c = record { tables = omega arith; links = omega arith; bytes = omega arith; roots = omega arith }
-grown_by Link2 c = record { tables = omega arith; links = omega arith; bytes = omega arith; roots = omega arith }
-grown_by Link4 c = record { tables = omega arith; links = omega arith; bytes = omega arith; roots = omega arith }
-grown_by Target c = record { tables = omega arith; links = omega arith; bytes = omega arith; roots = omega arith }
-grown_by Virtual c = record { tables = omega arith; links = omega arith; bytes = omega arith; roots = omega arith }
-grown_by Root c = record { tables = omega arith; links = omega arith; bytes = omega arith; roots = omega arith }
-grown_by Count c = record { tables = omega arith; links = omega arith; bytes = omega arith; roots = omega arith }
+grown_by k c = record { tables = grind arith; links = grind arith; bytes = grind arith; roots = grind arith }
 
 grown_to : (k : WordKind) (c : StreamCounts) (o : Option Place) (e : Reading) → stepped_to k c o ≡ Some e → Grown c e.counts
 grown_to k c None e h = absurd (none_some h)

@@ -1,38 +1,16 @@
 -- A word says exactly what it is spelled from.
-use Rattle.std.proofs.Common.{◌≡◌, ℕ, ◌/◌, ◌%◌, ◌^◌, ◌<◌, ◌≤◌, eqb, ltb, List, [], ◌∷◌, map, Some, None, Option, sym, refl, ap, ◌∙◌, ⊎_elim, arith, lit≤}
+use Rattle.std.proofs.Common.{rules, ◌≡◌, ℕ, ◌/◌, ◌%◌, ◌^◌, ◌<◌, eqb, ltb, List, [], ◌∷◌, map, Some, None, Option, sym, refl, ap, ◌∙◌, ⊎_elim, arith}
 use Rattle.std.specs.List.{AllByRecursion}
-use Rattle.std.proofs.lemmas.Bool.{cases_Bool, eqb-true, ltb-true, lt-ltb, cond-true, cond-false}
+use Rattle.std.proofs.lemmas.Bool.{cases_Bool, eqb-true, ltb-true, cond-true, cond-false}
 use Rattle.words.specs.declared.WordKind.{WordKind}
-use Rattle.words.specs.declared.WordKind.TheVariants.{Table, Value, Link2, Link4, Target, Virtual, Root, Count}
 use Rattle.words.specs.declared.Token.{Token}
 use Rattle.words.specs.Words.{kinds, kind_among, code_of, room_of, Fits, word_of, token_with, token_of}
-use Rattle.words.specs.Laws.{WordsSay}
 
 pub none_some : {X : Type 0} {x : X} → None ≡ Some x → ⊥
 none_some e = let z : ◌≡◌ {A = ℕ} 0 1 = cc in omega arith
 
 pub cons_nil : {X : Type 0} {x : X} {xs : List X} → x ∷ xs ≡ [] → ⊥
 cons_nil e = let z : ◌≡◌ {A = ℕ} 0 1 = cc in omega arith
-
-room_le : (k : WordKind) → room_of k ≤ 2 ^ 28
-room_le Table = lit≤ tt
-room_le Value = lit≤ tt
-room_le Link2 = lit≤ tt
-room_le Link4 = lit≤ tt
-room_le Target = lit≤ tt
-room_le Virtual = lit≤ tt
-room_le Root = lit≤ tt
-room_le Count = lit≤ tt
-
-kind_code : (k : WordKind) → kind_among kinds (code_of k) ≡ Some k
-kind_code Table = refl
-kind_code Value = refl
-kind_code Link2 = refl
-kind_code Link4 = refl
-kind_code Target = refl
-kind_code Virtual = refl
-kind_code Root = refl
-kind_code Count = refl
 
 code_kind : (ks : List WordKind) (c : ℕ) (k : WordKind) → kind_among ks c ≡ Some k → code_of k ≡ c
 code_kind [] c k e = absurd (none_some e)
@@ -70,15 +48,7 @@ says w t e =
     (p.fits, omega (arith, c, p.number))
 
 pub said : (t : Token) → Fits t → token_of (word_of t) ≡ Some t
-said t f =
-    let l = room_le t.kind in
-    let q : word_of t / 2 ^ 28 ≡ code_of t.kind = omega arith in
-    let m : word_of t % 2 ^ 28 ≡ t.number = omega arith in
-    ap (λ x. token_with x (kind_among kinds (word_of t / 2 ^ 28))) m ∙ ap (λ x. token_with t.number (kind_among kinds x)) q ∙ ap (token_with t.number) (kind_code t.kind)
-    ∙ cond-true _ (Some t) None (lt-ltb t.number (room_of t.kind) f)
-
-pub words_say_lem : WordsSay
-words_say_lem w t = (says w t, λ h. ap token_of (sym h.1) ∙ said t h.0)
+said t f = search rules
 
 -- whole lists of words
 pub all_say : (ws : List ℕ) (ts : List Token) → map token_of ws ≡ map Some ts → map word_of ts ≡ ws

@@ -10,7 +10,7 @@ ghost use Rattle.words.specs.Samples.{SamplesStand};
 use refusals::Refusal;
 
 /// What a word of a stream says.
-#[derive(Clone, Copy)]
+#[derive(Clone, Copy, PartialEq, Eq, Debug)]
 pub enum WordKind {
     /// A table begins; the number is its length in bytes.
     Table,
@@ -31,7 +31,7 @@ pub enum WordKind {
 }
 
 /// A row of the table of kinds.
-#[derive(Clone, Copy)]
+#[derive(Clone, Copy, PartialEq, Eq, Debug)]
 pub struct KindRow {
     pub kind: WordKind,
     /// The word's top four bits.
@@ -40,6 +40,7 @@ pub struct KindRow {
     pub zero_bits: u32,
 }
 
+// A table and not discriminants: each kind has its zero bits beside its code.
 /// The kinds of word.
 pub const KINDS: [KindRow; 8] = [
     KindRow {
@@ -88,21 +89,17 @@ pub const KINDS: [KindRow; 8] = [
 fn row_of(code: u32) -> Option<KindRow>
     ensures { result ≡ row_of code }
 {
-    for row in KINDS.iter() {
-        if row.code == code {
-            return Some(*row);
-        }
-    }
-    None
+    KINDS.iter().find(|row| row.code == code).copied()
 }
 
 /// A word taken apart.
-#[derive(Clone, Copy)]
+#[derive(Clone, Copy, PartialEq, Eq, Debug)]
 pub struct Token {
     pub kind: WordKind,
     pub number: u32,
 }
 
+// No `TryFrom`: its error type would say no more than none.
 /// The kind and the number of a word; none where the kind is unknown or a zero bit is set.
 pub fn decode(word: u32) -> Option<Token>
     ensures { result ≡ token_of word }
@@ -118,6 +115,7 @@ pub fn decode(word: u32) -> Option<Token>
     })
 }
 
+// No `TryFrom`: its error type would say no more than none.
 /// The value in a word of kind `Value`; none in any other word. Most words are values, so this looks at nothing else.
 pub fn value_of(word: u32) -> Option<u16>
     ensures { result ≡ value_of word }
@@ -130,16 +128,17 @@ pub fn value_of(word: u32) -> Option<u16>
 }
 
 /// The width of a real link in bytes.
-#[derive(Clone, Copy)]
+#[derive(Clone, Copy, PartialEq, Eq, Debug)]
 pub enum Width {
     Two,
     Four,
 }
 
 /// Where a reader stands in a stream.
-#[derive(Clone, Copy)]
+#[derive(Clone, Copy, PartialEq, Eq, Debug, Default)]
 pub enum Place {
     /// Before the first word.
+    #[default]
     Start,
     /// In a table, with so many values to come before its links.
     Inside { left: u32 },
@@ -184,7 +183,7 @@ impl Place {
 }
 
 /// How much there is of everything in a stream.
-#[derive(Clone, Copy, PartialEq, Eq, Debug)]
+#[derive(Clone, Copy, PartialEq, Eq, Debug, Default)]
 pub struct StreamCounts {
     pub tables: usize,
     /// Real and virtual links together.
@@ -223,7 +222,7 @@ impl StreamCounts {
 }
 
 /// A reader of a stream: where it stands, and what it has counted.
-#[derive(Clone, Copy)]
+#[derive(Clone, Copy, PartialEq, Eq, Debug, Default)]
 struct Reading {
     place: Place,
     counts: StreamCounts,
@@ -259,15 +258,7 @@ pub fn scan(words: &[u32]) -> Result<StreamCounts, Refusal>
     ensures answers { result ≡ scanned words.now }
     ensures means { Tells words.now result }
 {
-    let mut reading = Reading {
-        place: Place::Start,
-        counts: StreamCounts {
-            tables: 0,
-            links: 0,
-            bytes: 0,
-            roots: 0,
-        },
-    };
+    let mut reading = Reading::default();
     for (index, word) in words.iter().enumerate() {
         reading = reading.step(*word).ok_or(Refusal::BadWord { index })?;
     }
@@ -278,29 +269,21 @@ pub fn scan(words: &[u32]) -> Result<StreamCounts, Refusal>
 }
 
 /// A theorem: a word says exactly what it is spelled from.
-pub fn words_say() -> u8
+pub fn words_say()
     ensures { WordsSay }
-{
-    0
-}
+{}
 
 /// A theorem: a stream is accepted exactly where the words spell it.
-pub fn streams_spell() -> u8
+pub fn streams_spell()
     ensures { StreamsSpell }
-{
-    0
-}
+{}
 
 /// A theorem: an index is answered exactly where it is that of the first word that does not fit.
-pub fn misfits_tell() -> u8
+pub fn misfits_tell()
     ensures { MisfitsTell }
-{
-    0
-}
+{}
 
 /// Some streams worked by hand.
-pub fn samples_stand() -> u8
+pub fn samples_stand()
     ensures { SamplesStand }
-{
-    0
-}
+{}

@@ -6,7 +6,7 @@ use Rattle.words.proofs.Counting.{at_start, ok_or_none, again, unfit, ended, une
 use Rattle.words.proofs.scan.Goals as goal
 
 pub loop-index-init : goal.loop-index-init
-loop-index-init c = at_start c.args.words.now
+loop-index-init c = at_start c.args.words.now c.default-reading.result c.default-reading.ensures
 
 pub step-requires : goal.step-requires
 step-requires c = let f = c.loop-index.invariant in omega arith
