@@ -1,31 +1,28 @@
--- Text that grows part by part, and runs as they are printed.
-use Rattle.std.proofs.Common.{◌≡◌, ℕ, suc, ◌+◌, ◌-◌, ◌<◌, ◌≤◌, cond, ltb, List, [], ◌∷◌, ◌++◌, length, get_or, take, drop, is_ok, IfOk, Ok, Err, Result, sym, refl, ap, ◌∙◌, ⊎_elim, append_assoc, arith}
-use Rattle.std.proofs.lemmas.List.{at_drop_more, at_drop_all, flat_map_more, take_more, take_all, append-nil}
-use Rattle.std.proofs.lemmas.Bool.{cases_eq, cases_lt, lt-ltb, le-ltb, cond-true, cond-false}
-use Rattle.std.specs.List.{flat_map}
+-- Unbroken runs as they are printed, part by part of a list.
+use Rattle.std.proofs.Common.{◌≡◌, ◌≢◌, ℕ, suc, ◌+◌, ◌-◌, ◌<◌, Bool, true, false, List, [], ◌∷◌, ◌++◌, length, get_or, codes, decimal, ◌==◌, Bor, sym, refl, ap, ◌∙◌, ⊎_elim, arith}
+use Rattle.std.proofs.lemmas.Bool.{both_ways, cases_eq, eqb-true, eq-eqb, ne_eqb, cond-true, cond-false}
+use Rattle.std.specs.Fn.{ComputesOnPairs}
+use Rattle.std.specs.Iterator.{Yields}
+use Rattle.std.specs.List.{flat_map, IsChunkByPrefix}
+use Rattle.std.specs.Slice.Iter.{chunk_by_steps, chunk_by_rest, chunk_by_callee}
+use Rattle.std.specs.declared.slice.ChunkBy.{ChunkBy}
 use Rattle.coverage_opentype.specs.Format2.{runs_from}
 use Rattle.coverage_opentype.specs.Unbroken.{run, runs_on, runs_break}
-use Rattle.cover_text.specs.Text.{spaced_range, runs_text, hex_digit_of, hex_byte, hex_text, writes_line_of}
+use Rattle.cover_text.specs.Text.{spaced_range, runs_text}
+use denote.Param.Members.{Mut}
 
--- two parts, of which the last call appends the second
-pub two_parts : {T E : Type 0} (r : Result T E) (was mid now ys zs : List ℕ) → mid ≡ was ++ ys → now ≡ cond (is_ok r) (mid ++ zs) mid → IfOk r (λ _. now ≡ was ++ (ys ++ zs))
-two_parts (Ok x) was mid now ys zs m e = e ∙ ap (λ t. t ++ zs) m ∙ append_assoc was ys zs
-two_parts (Err x) was mid now ys zs m e = tt
+-- what is printed of a part
+abbrev pub run_text : List ℕ → List ℕ
+run_text [] = []
+run_text (g ∷ []) = codes " " ++ decimal g
+run_text (g ∷ h ∷ gs) = codes " " ++ (decimal g ++ (codes "-" ++ decimal (get_or (h ∷ gs) (length gs) 0)))
 
-pub hex_ascii : (d : ℕ) → d < 16 → hex_digit_of d < 128
-hex_ascii d h = ⊎_elim (λ lt. let e = cond-true (ltb d 10) (48 + d) (87 + d) (lt-ltb d 10 lt) in omega arith) (λ le. let e = cond-false (ltb d 10) (48 + d) (87 + d) (le-ltb d 10 le) in omega arith) (cases_lt d 10)
+abbrev pub part_text : Bor (List ℕ) → List ℕ
+part_text part = run_text part.now
 
--- one byte more
-pub hex_more : (was mid now bs : List ℕ) (i b : ℕ) → i < length bs → b ≡ get_or bs i 0 → mid ≡ was ++ hex_text (take i bs) → now ≡ mid ++ hex_byte b → now ≡ was ++ hex_text (take (i + 1) bs)
-hex_more was mid now bs i b lt is m n =
-    n
-    ∙ ap (λ t. t ++ hex_byte b) m
-    ∙ ap (λ z. was ++ hex_text (take i bs) ++ hex_byte z) is
-    ∙ flat_map_more hex_byte was (take i bs) (get_or bs i 0)
-    ∙ ap (λ t. was ++ hex_text t) (sym (take_more bs i 0 lt))
-
-pub hex_all : (was now bs : List ℕ) (i : ℕ) → length bs ≤ i → now ≡ was ++ hex_text (take i bs) → now ≡ was ++ hex_text bs
-hex_all was now bs i le n = n ∙ ap (λ t. was ++ hex_text t) (take_all i bs le)
+-- the next glyph has the next number
+abbrev pub adjoin : ℕ → ℕ → Bool
+adjoin g h = h == g + 1
 
 -- a run is printed without its index
 runs_anew : (s l i j : ℕ) (gs : List ℕ) → flat_map spaced_range (runs_from s l i gs) ≡ flat_map spaced_range (runs_from s l j gs)
@@ -39,53 +36,55 @@ runs_anew s l i j (g ∷ gs) =
     ∙ sym (ap (flat_map spaced_range) (runs_break s l j g gs ne)))
     (cases_eq g (suc l))
 
--- what is still to be printed when the run at hand goes from s to l
-abbrev pub left : ℕ → ℕ → List ℕ → List ℕ
-left s l gs = flat_map spaced_range (runs_from s l 0 gs)
+-- each of the first n glyphs adjoins the one before it
+abbrev Unbroken : List ℕ → ℕ → Type 0
+Unbroken gs n = (k d : ℕ) → k + 1 < n → adjoin (get_or gs k d) (get_or gs (k + 1) d) ≡ true
 
-pub left_first : (gs : List ℕ) (g : ℕ) → 0 < length gs → g ≡ get_or gs 0 0 → left g g (drop 1 gs) ≡ runs_text gs
-left_first [] g h e = absurd (omega arith)
-left_first (x ∷ xs) g h e = ap (λ z. left z z xs) e
+unbroken_rest : (g : ℕ) (gs : List ℕ) (n : ℕ) → Unbroken (g ∷ gs) (suc n) → Unbroken gs n
+unbroken_rest g gs n up k d lt = let e : suc k + 1 ≡ suc (k + 1) = omega arith in rw e at (up (suc k) d (omega arith))
 
-module _ (gs : List ℕ) (i s l g : ℕ) (lt : i < length gs) (is : g ≡ get_or gs i 0) where
-  at_g : left s l (drop i gs) ≡ left s l (g ∷ drop (i + 1) gs)
-  at_g = at_drop_more (left s l) gs i 0 lt ∙ ap (λ z. left s l (z ∷ drop (i + 1) gs)) (sym is)
+-- the run at hand goes on through ys, and ends there
+through : (s l : ℕ) (ys rest : List ℕ) → Unbroken (l ∷ (ys ++ rest)) (suc (length ys)) → ((d : ℕ) → length ys < length (ys ++ rest) → adjoin (get_or (l ∷ (ys ++ rest)) (length ys) d) (get_or (l ∷ (ys ++ rest)) (suc (length ys)) d) ≡ false)
+    → flat_map spaced_range (runs_from s l 0 (ys ++ rest)) ≡ spaced_range (run s (get_or (l ∷ ys) (length ys) 0) 0) ++ runs_text rest
+through s l [] [] up gap = refl
+through s l [] (r ∷ rest) up gap =
+    let ne : r ≢ suc l = λ e. both_ways (adjoin l r) (gap 0 (omega arith)) (eq-eqb r (l + 1) (omega arith)) in
+    ap (flat_map spaced_range) (runs_break s l 0 r rest ne) ∙ ap (λ t. spaced_range (run s l 0) ++ t) (runs_anew r r (0 + (suc l - s)) 0 rest)
+through s l (y ∷ ys) rest up gap =
+    let e = eqb-true y (l + 1) (up 0 0 (omega arith)) in
+    ap (flat_map spaced_range) (runs_on s l 0 y (ys ++ rest) (omega arith)) ∙ through s y ys rest (unbroken_rest l (y ∷ (ys ++ rest)) (suc (length ys)) up) (λ d lt. gap d (omega arith))
 
-  pub left_on : g ≡ l + 1 → left s l (drop i gs) ≡ left s g (drop (i + 1) gs)
-  left_on e = at_g ∙ ap (flat_map spaced_range) (runs_on s l 0 g (drop (i + 1) gs) (omega arith))
+-- the last glyph of a run
+ends : (l : ℕ) (ys rest : List ℕ) → Unbroken (l ∷ (ys ++ rest)) (suc (length ys)) → get_or (l ∷ ys) (length ys) 0 ≡ l + length ys
+ends l [] rest up = omega arith
+ends l (y ∷ ys) rest up =
+    let e = eqb-true y (l + 1) (up 0 0 (omega arith)) in
+    let h = ends y ys rest (unbroken_rest l (y ∷ (ys ++ rest)) (suc (length ys)) up) in
+    omega arith
 
-  pub left_break : (g ≡ l + 1 → ⊥) → left s l (drop i gs) ≡ spaced_range (run s l 0) ++ left g g (drop (i + 1) gs)
-  left_break ne =
-      at_g
-      ∙ ap (flat_map spaced_range) (runs_break s l 0 g (drop (i + 1) gs) (λ e. ne (omega arith)))
-      ∙ ap (λ t. spaced_range (run s l 0) ++ t) (runs_anew g g (0 + (suc l - s)) 0 (drop (i + 1) gs))
+one_run : (g : ℕ) (gs rest : List ℕ) → Unbroken (g ∷ (gs ++ rest)) (suc (length gs)) → spaced_range (run g (get_or (g ∷ gs) (length gs) 0) 0) ≡ run_text (g ∷ gs)
+one_run g [] rest up = ap (λ t. codes " " ++ t) (cond-true (g == g) _ _ (eq-eqb g g refl))
+one_run g (h ∷ gs) rest up =
+    let e = ends g (h ∷ gs) rest up in
+    ap (λ t. codes " " ++ t) (cond-false (g == get_or (h ∷ gs) (length gs) 0) _ _ (ne_eqb g _ (λ q. omega arith)))
 
-pub left_last : (gs : List ℕ) (i s l : ℕ) → length gs ≤ i → left s l (drop i gs) ≡ spaced_range (run s l 0) ++ []
-left_last gs i s l le = at_drop_all (left s l) gs i le
+-- a part as long as it can be is one run
+first_run : (gs rest : List ℕ) → 0 < length gs → IsChunkByPrefix adjoin (gs ++ rest) (length gs) → run_text gs ++ runs_text rest ≡ runs_text (gs ++ rest)
+first_run [] rest lt p = absurd (omega arith)
+first_run (g ∷ gs) rest lt p =
+    let e : suc (length gs) - 1 ≡ length gs = omega arith in
+    ap (λ t. t ++ runs_text rest) (sym (one_run g gs rest p.0))
+    ∙ sym (through g g gs rest p.0 (λ d more. rw e at (p.1 (omega arith) d)))
 
--- the walk over a list: the text so far, and what is still to be printed
-module _ (text whole gs : List ℕ) (i s l : ℕ) (inv : text ++ left s l (drop i gs) ≡ whole) where
-  pub walk_on : (g : ℕ) → i < length gs → g ≡ get_or gs i 0 → g ≡ l + 1 → text ++ left s g (drop (i + 1) gs) ≡ whole
-  walk_on g lt is e = ap (λ t. text ++ t) (sym (left_on gs i s l g lt is e)) ∙ inv
+none : (gs : List ℕ) → length gs ≡ 0 → [] ≡ runs_text gs
+none [] e = refl
+none (g ∷ gs) e = absurd (omega arith)
 
-  pub walk_break : (now : List ℕ) (g : ℕ) → i < length gs → g ≡ get_or gs i 0 → (g ≡ l + 1 → ⊥) → now ≡ text ++ spaced_range (run s l 0) → now ++ left g g (drop (i + 1) gs) ≡ whole
-  walk_break now g lt is ne n =
-      ap (λ t. t ++ left g g (drop (i + 1) gs)) n
-      ∙ append_assoc text (spaced_range (run s l 0)) (left g g (drop (i + 1) gs))
-      ∙ ap (λ t. text ++ t) (sym (left_break gs i s l g lt is ne))
-      ∙ inv
-
-  pub walk_end : (now : List ℕ) → length gs ≤ i → now ≡ text ++ spaced_range (run s l 0) → now ≡ whole
-  walk_end now le n =
-      n
-      ∙ ap (λ t. text ++ t) (sym (append-nil (spaced_range (run s l 0))))
-      ∙ ap (λ t. text ++ t) (sym (left_last gs i s l le))
-      ∙ inv
-
--- the line of bytes that are known by another name
-pub writes_of : (codec s bs cs : List ℕ) → s ≡ writes_line_of codec bs → bs ≡ cs → s ≡ writes_line_of codec cs
-writes_of codec s bs cs e is = e ∙ ap (writes_line_of codec) is
-
--- five lines in a row
-pub five_parts : {a b c d e a' b' c' d' e' : List ℕ} → a ≡ a' → b ≡ b' → c ≡ c' → d ≡ d' → e ≡ e' → a ++ (b ++ (c ++ (d ++ e))) ≡ a' ++ (b' ++ (c' ++ (d' ++ e')))
-five_parts p q r s t = cc
+-- all parts are the runs
+pub all_runs : {F : Type 0} (g : Mut F (Bor ℕ × (Bor ℕ × Unit {0})) Bool) (s t : ChunkBy ℕ F) (parts : List (Bor (List ℕ))) → ComputesOnPairs g adjoin (chunk_by_callee s) → Yields (chunk_by_steps g) s parts t → length (chunk_by_rest t) ≡ 0 → flat_map part_text parts ≡ runs_text (chunk_by_rest s)
+all_runs g s t [] calls y end = none (chunk_by_rest t) end ∙ ap (λ (z : ChunkBy ℕ _). runs_text (chunk_by_rest z)) (sym y)
+all_runs g s t (x ∷ parts) calls y end =
+    let w = y.1.2 adjoin calls in
+    ap (λ z. part_text x ++ z) (all_runs g y.0 t parts w.0 y.2 end)
+    ∙ first_run x.now (chunk_by_rest y.0) y.1.1 (rw y.1.0 at w.1)
+    ∙ ap runs_text (sym y.1.0)

@@ -2,7 +2,8 @@
 use Rattle.std.specs.Prelude.{ℕ, ◌+◌, ◌/◌, ◌%◌, cond, List, [], ◌∷◌, ◌++◌, length, Some, None, Ok, Err, codes, decimal, Option, Result, ◌==◌, nat_lt}
 use Rattle.std.specs.List.{flat_map}
 use Rattle.refusals.specs.declared.CodecFault.{CodecFault}
-use Rattle.refusals.specs.declared.CodecFault.TheVariants.{NoMeaning, PastEnd, NotAdmitted, NoSpace}
+use Rattle.refusals.specs.declared.CodecFault.TheVariants.{NoMeaning}
+use Rattle.refusals.specs.Words.{fault_words_of}
 use Rattle.data_bytes.specs.BigEndian.{word16}
 use Rattle.coverage.specs.Meaning.{Meant}
 use Rattle.coverage_list.specs.Format1.{array_meaning, array_bytes}
@@ -13,13 +14,6 @@ use Rattle.coverage_opentype.specs.OpenType.{open_type_meaning, open_type_bytes}
 -- what ends a line
 abbrev pub newline : List ℕ
 newline = 10 ∷ []
-
--- a codec's fault in words
-abbrev pub fault_words_of : CodecFault → List ℕ
-fault_words_of NoMeaning = codes "the bytes mean no glyph list"
-fault_words_of PastEnd = codes "there is no glyph at that index"
-fault_words_of NotAdmitted = codes "the codec does not admit the list"
-fault_words_of NoSpace = codes "the slice is too short"
 
 -- the glyphs from start to last: both numbers, or the one glyph alone
 abbrev pub range_text_of : ℕ → ℕ → List ℕ

@@ -1,8 +1,11 @@
 // What the library answers when it does not do what it is asked: refusals of calls, and faults of coverage codecs.
 #![tactic(auto)]
 
-ghost use Rattle.std.specs.Prelude.{◌≡◌};
+ghost use Rattle.std.specs.Prelude.{◌≡◌, Some};
 ghost use Rattle.refusals.specs.Numbers.{refusal_number, refusal_value, fault_number, pool_number, NumbersTell};
+ghost use Rattle.refusals.specs.Words.{fault_words_of};
+
+use std::fmt;
 
 /// The three pools of memory that a graph takes from.
 #[derive(Clone, Copy, PartialEq, Eq, Debug)]
@@ -136,6 +139,20 @@ impl CodecFault {
         ensures { result ≡ fault_number self }
     {
         self as u8
+    }
+}
+
+// A fault in words.
+impl fmt::Display for CodecFault {
+    ghost output = { λ fault. Some (fault_words_of fault) };
+
+    fn fmt<W: fmt::Write>(&self, f: &mut fmt::Formatter<W>) -> fmt::Result {
+        f.write_str(match self {
+            CodecFault::NoMeaning => "the bytes mean no glyph list",
+            CodecFault::PastEnd => "there is no glyph at that index",
+            CodecFault::NotAdmitted => "the codec does not admit the list",
+            CodecFault::NoSpace => "the slice is too short",
+        })
     }
 }
 

@@ -1,5 +1,6 @@
-// What the text of a coverage table says, or that there is none. Worked by hand from docs/COVDUMP.md.
+// What the text of a coverage table says, or that there is none, and a codec's faults in words. Worked by hand from docs/COVDUMP.md.
 use cover_text::coverage_text;
+use refusals::CodecFault;
 use std::test::Fail;
 
 struct Told {
@@ -41,9 +42,25 @@ const TOLD: [Told; 6] = [
 
 #[test]
 fn tables_are_told(rt: HostRuntime) -> Result<(), Fail> {
-    for case in TOLD.iter() {
+    for case in &TOLD {
         let text = coverage_text(rt.alloc(), case.bytes)?;
         assert_eq!(rt; text.as_str(), case.text);
+    }
+    Ok(())
+}
+
+const WORDS: [(CodecFault, &str); 4] = [
+    (CodecFault::NoMeaning, "the bytes mean no glyph list"),
+    (CodecFault::PastEnd, "there is no glyph at that index"),
+    (CodecFault::NotAdmitted, "the codec does not admit the list"),
+    (CodecFault::NoSpace, "the slice is too short"),
+];
+
+#[test]
+fn faults_are_told(rt: HostRuntime) -> Result<(), Fail> {
+    for (fault, words) in &WORDS {
+        let text = fault.to_string(rt.alloc())?;
+        assert_eq!(rt; text.as_str(), *words);
     }
     Ok(())
 }

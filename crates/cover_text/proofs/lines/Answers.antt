@@ -1,32 +1,22 @@
-use Rattle.std.proofs.Common.{◌≡◌, ◌++◌, Some, string_bytes, codes, ◌∙◌, arith}
-use Rattle.std.proofs.lemmas.Result.{IfOk-weaker}
+use Rattle.std.proofs.Common.{◌≡◌, ℕ, List, ◌++◌, string_bytes, codes, append_assoc, ◌∙◌, ap, rules}
 use Rattle.coverage_list.specs.Format1.{array_bytes}
 use Rattle.coverage_opentype.specs.OpenType.{open_type_bytes}
-use Rattle.coverage_opentype.specs.Choosing.{sound}
-use Rattle.cover_text.specs.Text.{lines_of}
-use Rattle.cover_text.proofs.Calls.{begins}
-use Rattle.cover_text.proofs.Printing.{writes_of, five_parts}
+use Rattle.cover_text.specs.Text.{format_line_of, glyphs_line_of, list_line_of, writes_line_of}
 use Rattle.cover_text.proofs.lines.Goals as goal
 
-pub opentype_bytes-requires : goal.opentype_bytes-requires
-opentype_bytes-requires c = sound c.args.bytes.now c.args.glyphs.now c.args.end c.requires
-
-pub list_bytes-requires : goal.list_bytes-requires
-list_bytes-requires c = sound c.args.bytes.now c.args.glyphs.now c.args.end c.requires
-
-pub format_line-requires : goal.format_line-requires
-format_line-requires c = let b = (begins c.args.bytes.now c.args.glyphs.now c.args.end c.requires).0 in omega arith
+-- a text that grew by a line at a time
+grown : (a b c d e t u v w x : List ℕ) → t ≡ a → u ≡ t ++ b → v ≡ u ++ c → w ≡ v ++ d → x ≡ w ++ e → x ≡ a ++ (b ++ (c ++ (d ++ e)))
+grown a b c d e t u v w x ta ub vc wd xe = rw (xe, wd, vc, ub, ta) (simp append_assoc)
 
 pub returns : goal.returns
+unfolding format_line_of glyphs_line_of list_line_of writes_line_of
 returns c =
-    let a = string_bytes c.in_ok-first.first in
-    let b = string_bytes c.in_ok-second.second in
-    let d = string_bytes c.in_ok-third.third in
-    let e = string_bytes c.in_ok-fourth.fourth in
-    let f = string_bytes c.in_ok-fifth.fifth in
+    let bs = c.args.bytes.now in
     let gs = c.args.glyphs.now in
-    let fourth = writes_of (codes "OpenType codec") e c.deref.result.now (open_type_bytes gs) c.in_ok-fourth.ensures (c.deref.ensures.value ∙ c.in_ok-opentype.ensures) in
-    let fifth = writes_of (codes "list codec") f c.deref-2.result.now (array_bytes gs) c.in_ok-fifth.ensures (c.deref-2.ensures.value ∙ c.in_ok-list.ensures) in
-    IfOk-weaker c.format.result (λ t. string_bytes t ≡ a ++ (b ++ (d ++ (e ++ f)))) (λ t. string_bytes t ≡ lines_of c.args.bytes.now (Some (c.args.glyphs.now, c.args.end)))
-    (λ t n. n ∙ five_parts c.in_ok-first.ensures c.in_ok-second.ensures c.in_ok-third.ensures fourth fifth)
-    c.format.ensures.ok
+    let first : string_bytes c.writeln.new.self ≡ format_line_of bs c.args.end = search rules in
+    let second : string_bytes c.writeln-2.new.self ≡ string_bytes c.writeln.new.self ++ glyphs_line_of gs = search rules in
+    let third : string_bytes c.writeln-3.new.self ≡ string_bytes c.writeln-2.new.self ++ list_line_of bs = c.in_ok-writeln-3.ensures.bytes in
+    let fourth : string_bytes c.writeln-4.new.self ≡ string_bytes c.writeln-3.new.self ++ writes_line_of (codes "OpenType codec") (open_type_bytes gs) = search rules in
+    let fifth : string_bytes c.writeln-5.new.self ≡ string_bytes c.writeln-4.new.self ++ writes_line_of (codes "list codec") (array_bytes gs) =
+    c.in_ok-writeln-5.ensures.bytes ∙ ap (λ z. string_bytes c.writeln-4.new.self ++ writes_line_of (codes "list codec") z) (c.deref-2.ensures.value ∙ c.in_ok-list.ensures) in
+    grown _ _ _ _ _ _ _ _ _ _ first second third fourth fifth
