@@ -5,7 +5,7 @@ use Rattle.std.proofs.ByRecursion.{All-get_or, All-weaker, has_append_right}
 use Rattle.std.proofs.lemmas.Bool.{cases_Bool}
 use Rattle.rows.specs.declared.RowKey.{RowKey}
 use Rattle.rows.specs.Keys.{precedes, same, Before}
-use Rattle.rows.specs.Rows.{Rising, row_of, with_row, without_row}
+use Rattle.rows.specs.Rows.{Rising, row_of, with_row, without_row, Answered}
 use Rattle.rows.specs.Laws.{RisingPairs, RisingFromNeighbours, LookUpSound, LookUpComplete, FoundAfterPut, OthersAfterPut, GoneAfterRemove, OthersAfterRemove, RisingAfterPut, RisingAfterRemove, CountAfterPut, CountAfterRemove, ToldByLookUps}
 use Rattle.rows.proofs.Order.{before_trans, cases_key, not_back, not_before_self, same_from_eq, eq_from_same, apart_before, apart_after, apart}
 
@@ -50,6 +50,11 @@ look_up_at key (x ∷ xs) (suc i) d up in' =
 
 pub look_up_complete : {X : Type 0} (key : X → RowKey) → LookUpComplete key
 look_up_complete key xs up x has = subst (λ t. row_of key (key t) xs ≡ Some t) (has.2 x) (look_up_at key xs has.0 x up has.1)
+
+-- so an answer that is one of them, with the key sought, is what it finds
+pub found_from_answer : {X : Type 0} (key : X → RowKey) (k : RowKey) (xs : List X) (x : X) → Answered key k xs (Some x) → Rising key xs → Some x ≡ row_of key k xs
+found_from_answer key k xs x a up =
+    sym (subst (λ l. row_of key l xs ≡ Some x) (a.keyed x refl) (look_up_complete key xs up x (a.used x refl)))
 
 pub found_after_put : {X : Type 0} (key : X → RowKey) → FoundAfterPut key
 found_after_put key r [] = rw (same_from_eq (key r) (key r) refl)

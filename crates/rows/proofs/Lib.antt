@@ -2,4 +2,3 @@ pub mod Order
 pub mod Laws
 pub mod Places
 mod Slices
-pub mod Used

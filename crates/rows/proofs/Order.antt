@@ -1,29 +1,23 @@
 -- Keys are in a strict total order, and the tests tell it.
-use Rattle.std.proofs.Common.{◌≡◌, ◌<◌, Bool, true, false, ◌≢◌, sym, ap, ◌∙◌, inl, inr, ⊎_elim, arith}
-use Rattle.std.proofs.lemmas.Bool.{cases_order, both_ways}
+use Rattle.std.proofs.Common.{Ordering, Less, Equal, Greater, ◌≡◌, ◌≤◌, true, false, ◌≢◌, ⊎_elim, arith}
+use Rattle.std.specs.Ordering.{MatchOrdering, nat_cmp, ordering_then, ordering_index}
 use Rattle.std.proofs.lemmas.Bool.Decides.{nat_tests}
 use Rattle.rows.specs.declared.RowKey.{RowKey}
 use Rattle.rows.specs.Keys.{precedes, same, Before}
 use Rattle.rows.specs.Laws.{Lexicographic, Ordered, Irreflexive, Transitive}
 
+-- the order that `RowKey` derives
+abbrev pub key_cmp : RowKey → RowKey → Ordering
+key_cmp k l = ordering_then (nat_cmp k.list l.list) (nat_cmp k.place l.place)
+
 pub lexicographic : Lexicographic
 lexicographic k l = (λ b. grind (arith, nat_tests), λ s. grind (arith, nat_tests))
 
 same_key : (k l : RowKey) → k.list ≡ l.list → k.place ≡ l.place → k ≡ l
-same_key k l p q = let a : k ≡ record { list = l.list; place = k.place } = ap (λ n. record { list = n; place = k.place }) p in a ∙ ap (λ n. record { list = l.list; place = n }) q
-
-pub before_from_list : (k l : RowKey) → k.list < l.list → Before k l
-before_from_list k l h = (lexicographic k l).1 (inl h)
-
-pub before_from_place : (k l : RowKey) → k.list ≡ l.list → k.place < l.place → Before k l
-before_from_place k l e h = (lexicographic k l).1 (inr (e, h))
+same_key k l p q = let e : ◌≡◌ {A = RowKey} (record { list = k.list; place = k.place }) (record { list = l.list; place = l.place }) = cc in e
 
 pub cases_key : Ordered
-cases_key k l =
-    ⊎_elim
-    (λ e. ⊎_elim (λ f. inl (same_key k l e f)) (⊎_elim (λ f. inr (inl (before_from_place k l e f))) (λ f. inr (inr (before_from_place l k (sym e) f)))) (cases_order k.place l.place))
-    (⊎_elim (λ h. inr (inl (before_from_list k l h))) (λ h. inr (inr (before_from_list l k h))))
-    (cases_order k.list l.list)
+cases_key k l = grind (arith, nat_tests)
 
 pub before_irrefl : Irreflexive
 before_irrefl k b = grind (arith, nat_tests)
@@ -41,7 +35,7 @@ pub same_from_eq : (k l : RowKey) → k ≡ l → same k l ≡ true
 same_from_eq k l e = rw e (grind (arith, nat_tests))
 
 pub eq_from_same : (k l : RowKey) → same k l ≡ true → k ≡ l
-eq_from_same k l e = let p : (k.list ≡ l.list) × (k.place ≡ l.place) = (grind (arith, nat_tests), grind (arith, nat_tests)) in same_key k l p.0 p.1
+eq_from_same k l e = same_key k l (grind (arith, nat_tests)) (grind (arith, nat_tests))
 
 pub apart_before : (k l : RowKey) → Before k l → same k l ≡ false
 apart_before k l b = grind (arith, nat_tests)
@@ -52,12 +46,11 @@ apart_after k l b = grind (arith, nat_tests)
 pub apart : (k l : RowKey) → k ≢ l → same k l ≡ false
 apart k l n = ⊎_elim (λ e. absurd (n e)) (⊎_elim (apart_before k l) (apart_after k l)) (cases_key k l)
 
-pub eq_from_neither : (k l : RowKey) → precedes k l ≡ false → precedes l k ≡ false → k ≡ l
-eq_from_neither k l p q = ⊎_elim (λ e. e) (⊎_elim (λ b. absurd (both_ways (precedes k l) p b)) (λ b. absurd (both_ways (precedes l k) q b))) (cases_key k l)
+-- what the order of keys answers, and that it does not fall along keys that rise
+pub ranked : (k l : RowKey) (o : Ordering) → o ≡ key_cmp k l → MatchOrdering o (Before k l) (k ≡ l) (Before l k)
+ranked k l Less e = grind (arith, nat_tests)
+ranked k l Equal e = same_key k l (grind (arith, nat_tests)) (grind (arith, nat_tests))
+ranked k l Greater e = grind (arith, nat_tests)
 
--- what a test of a key says of the same key under another name
-pub told_left : (k l m : RowKey) (b : Bool) → l ≡ m → b ≡ precedes l k → precedes m k ≡ b
-told_left k l m b e t = cc
-
-pub told_right : (k l m : RowKey) (b : Bool) → l ≡ m → b ≡ precedes k l → precedes k m ≡ b
-told_right k l m b e t = cc
+pub rank_rises : (k l m : RowKey) → Before k l → ordering_index (key_cmp k m) ≤ ordering_index (key_cmp l m)
+rank_rises k l m b = grind (arith, nat_tests)

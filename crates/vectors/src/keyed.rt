@@ -1,10 +1,20 @@
 // Keyed rows: a walk of puts and removes on four rows of each kind, with every row and many look-ups checked at each step.
-use rows::{LinkRow, LinkWidth, ParentRow, Row, RowKey, find, put, remove};
+use rows::{KeyedRows, LinkRow, LinkWidth, ParentRow, Row, RowKey};
 
 // A row of any kind: its list, its place there, and what it holds.
 #[derive(Clone, Copy)]
 struct Entry(u32, u32, u32);
 
+impl Entry {
+    fn key(self) -> RowKey {
+        RowKey {
+            list: self.0,
+            place: self.1,
+        }
+    }
+}
+
+// An enum, since it is read in one place, and a constant holds no closures.
 enum Act {
     Put,
     Remove,
@@ -210,10 +220,8 @@ const ASKED: [RowKey; 13] = [
     },
 ];
 
-trait Sample: Row {
+trait Sample: Row + PartialEq {
     fn made(entry: Entry) -> Self;
-
-    fn holds(&self, entry: Entry, is_used: bool) -> bool;
 }
 
 impl Sample for LinkRow {
@@ -225,13 +233,6 @@ impl Sample for LinkRow {
             target: entry.2,
         }
     }
-
-    fn holds(&self, entry: Entry, is_used: bool) -> bool {
-        let is_wide = matches!(self.width, LinkWidth::Two);
-        let is_zero = matches!(self.width, LinkWidth::Zero);
-        let is_width = if is_used { is_wide } else { is_zero };
-        self.owner == entry.0 && self.position == entry.1 && self.target == entry.2 && is_width
-    }
 }
 
 impl Sample for ParentRow {
@@ -242,72 +243,51 @@ impl Sample for ParentRow {
             links: entry.2,
         }
     }
-
-    fn holds(&self, entry: Entry, _is_used: bool) -> bool {
-        self.child == entry.0 && self.parent == entry.1 && self.links == entry.2
-    }
 }
 
-// The entry with the key, by looking at each.
-fn entry_of(after: &[Entry], key: RowKey) -> Option<Entry> {
-    for entry in after.iter() {
-        if entry.0 == key.list && entry.1 == key.place {
-            return Some(*entry);
+fn finds<T: Sample>(keyed: &KeyedRows<T>, after: &[Entry]) -> bool {
+    ASKED.iter().all(|key| {
+        let found = keyed.find(*key);
+        match after.iter().find(|entry| entry.key() == *key) {
+            Some(entry) => found == Some(T::made(*entry)),
+            None => found.is_none(),
         }
-    }
-    None
-}
-
-fn finds<T: Sample>(rows: &[T], used: usize, after: &[Entry]) -> bool {
-    for key in ASKED.iter() {
-        let is_right = match (find(rows, used, *key), entry_of(after, *key)) {
-            (Some(row), Some(entry)) => row.holds(entry, true),
-            (None, None) => true,
-            _ => false,
-        };
-        if !is_right {
-            return false;
-        }
-    }
-    true
+    })
 }
 
 fn stand<T: Sample>(rows: &[T], after: &[Entry]) -> bool {
-    for (i, row) in rows.iter().enumerate() {
-        let entry = after.get(i).copied().unwrap_or(Entry(0, 0, 0));
-        if !row.holds(entry, i < after.len()) {
-            return false;
-        }
-    }
-    after.len() <= rows.len()
+    let Some((used, spare)) = rows.split_at_checked(after.len()) else {
+        return false;
+    };
+    let is_used = used
+        .iter()
+        .zip(after)
+        .all(|(row, entry)| *row == T::made(*entry));
+    is_used && spare.iter().all(|row| *row == T::default())
 }
 
-fn taken<T: Sample>(rows: &mut [T], used: usize, step: &Step) -> Option<usize> {
+fn taken<T: Sample>(keyed: &mut KeyedRows<T>, step: &Step) -> Option<usize> {
     match step.act {
-        Act::Put => put(rows, used, T::made(step.row)),
-        Act::Remove => {
-            let key = RowKey {
-                list: step.row.0,
-                place: step.row.1,
-            };
-            Some(remove(rows, used, key))
-        }
+        Act::Put => keyed.put(T::made(step.row))?,
+        Act::Remove => keyed.remove(step.row.key()),
     }
+    Some(keyed.len())
 }
 
-// The first step that goes wrong. Where all rows are in use, `beyond` is told in place of their number.
-fn walk<T: Sample>(rows: &mut [T], beyond: usize) -> Option<usize> {
+// The name of the first step that goes wrong. Where all rows are in use, `beyond` is told in place of their number.
+fn walk<T: Sample>(rows: &mut [T], beyond: usize) -> Option<&'static str> {
     let mut used = 0;
-    for (i, step) in STEPS.iter().enumerate() {
-        if taken(rows, used, step) != step.answer || !stand(rows, step.after) {
-            return Some(i);
+    for step in STEPS.iter() {
+        let answer = taken(&mut KeyedRows::new(rows, used), step);
+        if answer != step.answer || !stand(rows, step.after) {
+            return Some(step.name);
         }
         used = step.after.len();
         if used == rows.len() {
             used = beyond;
         }
-        if !finds(rows, used, step.after) {
-            return Some(i);
+        if !finds(&KeyedRows::new(rows, used), step.after) {
+            return Some(step.name);
         }
     }
     None
@@ -316,9 +296,9 @@ fn walk<T: Sample>(rows: &mut [T], beyond: usize) -> Option<usize> {
 #[test]
 fn rows_go_in_and_out(rt: HostRuntime) {
     for beyond in [4, 5, usize::MAX] {
-        let mut links = [LinkRow::zero(); 4];
+        let mut links = [LinkRow::default(); 4];
         assert_eq!(rt; walk(&mut links, beyond), None);
-        let mut parents = [ParentRow::zero(); 4];
+        let mut parents = [ParentRow::default(); 4];
         assert_eq!(rt; walk(&mut parents, beyond), None);
     }
 }
