@@ -9,7 +9,7 @@ ghost use Rattle.load.specs.Outcome.{room_or, with_lookup, root_number};
 
 use graph::{Capacities, VertexRow};
 use refusals::{Pool, Refusal};
-use rows::{LinkRow, ParentRow, Row};
+use rows::{LinkRow, ParentRow};
 use words::StreamCounts;
 
 /// The first pool that is too small for a stream.
@@ -41,9 +41,9 @@ fn clear(
     ensures parents { parents.new ≡ replicate (length parents.old) zero_parent }
     ensures bytes { bytes.new ≡ replicate (length bytes.old) 0 }
 {
-    vertices.fill(VertexRow::zero());
-    links.fill(LinkRow::zero());
-    parents.fill(ParentRow::zero());
+    vertices.fill(VertexRow::default());
+    links.fill(LinkRow::default());
+    parents.fill(ParentRow::default());
     bytes.fill(0);
 }
 

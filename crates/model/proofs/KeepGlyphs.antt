@@ -1,18 +1,20 @@
 -- The glyphs of each subtable that a division makes: a contiguous part of the original's, which a codec admits.
-use Rattle.std.proofs.Common.{◌≡◌, ℕ, suc, ◌<◌, Bool, true, false, cond, eqb, List, [], ◌∷◌, ◌++◌, map, length, drop, sym, refl, ap, ◌∙◌, subst, arith}
+use Rattle.std.proofs.Common.{◌≡◌, ℕ, suc, ◌<◌, Bool, true, false, cond, eqb, List, [], ◌∷◌, ◌++◌, map, length, drop, Option, sym, refl, ap, ◌∙◌, subst, arith}
 use Rattle.std.specs.List.{AllByRecursion}
-use Rattle.std.proofs.lemmas.List.{append-nil, append_assoc}
+use Rattle.std.proofs.lemmas.List.{append-nil, append_assoc, length-map}
 use Rattle.std.proofs.ByRecursion.{All-weaker}
 use Rattle.std.proofs.lemmas.Bool.{eqb-true, eq-eqb, cond_both}
+use Rattle.coverage.specs.Meaning.{Meant}
 use Rattle.model.specs.Forest.{Ligature, LigatureSet, Subtable}
 use Rattle.model.specs.Cutting.{Entry, entries_from, sets_from, entries, same_set, parts}
 use Rattle.model.specs.Splitting.{Group, alone, with_first, join_group, groups, sets_of, divided}
-use Rattle.model.specs.Sound.{GoodSet, glyphs_of}
+use Rattle.model.specs.Sound.{GoodSet, GoodSubtable, Lawful, glyphs_of}
 use Rattle.model.specs.KeepingLaws.{PartOf, EachCoverageHasAPartOfTheGlyphs}
-use Rattle.model.proofs.Lists.{all_back}
+use Rattle.model.proofs.Lists.{all_back, all_both}
 use Rattle.model.proofs.KeepTelling.{first_of, first_of_entries}
 use Rattle.model.proofs.KeepSizes.{join_all, Starts, join_starts, later_set, divided-all}
-use Rattle.model.proofs.PartsRule.{whole, joined_parts, parts_some}
+use Rattle.model.proofs.KeepSound.{GoodSets, divided_sets_good}
+use Rattle.model.proofs.PartsRule.{whole, joined_parts, parts_some, Fits}
 
 abbrev pub firsts : List Group → List ℕ
 firsts ts = map (λ (t : Group). t.first) ts
@@ -148,3 +150,17 @@ sets_full ts h = All-weaker GoodSet (λ (t : LigatureSet). 0 < length t.ligature
 
 pub each_coverage_has_a_part_of_the_glyphs_lem : EachCoverageHasAPartOfTheGlyphs
 each_coverage_has_a_part_of_the_glyphs_lem ceiling wrapped wrote fresh s good = divided_glyphs ceiling wrapped wrote fresh s (sets_full s.sets good)
+
+-- so a lawful codec admits them
+pub divided_admitted : (admits : List ℕ → Type 0) (meaning : List ℕ → Option Meant) (span : List ℕ → ℕ) → Lawful admits meaning span → (ceiling : ℕ) (wrapped : Bool) (wrote : ℕ → List ℕ) (fresh : ℕ) (s : Subtable) → GoodSubtable meaning s → AllByRecursion (Fits ceiling) (entries s) → AllByRecursion (λ (t : Subtable). admits (glyphs_of t)) (divided wrapped wrote fresh s (parts ceiling (entries s)))
+divided_admitted admits meaning span law c wrapped wrote fresh s good f =
+    let adm = law.sound s.covering (glyphs_of s) (length s.covering) good.means in
+    All-weaker (λ (t : Subtable). GoodSets t.sets × PartOf (glyphs_of t) (glyphs_of s)) (λ (t : Subtable). admits (glyphs_of t))
+    (λ t k.
+    let n = length-map t.sets (λ (u : LigatureSet). u.first) in
+    let some = k.0.0 in
+    law.parts k.1.before (glyphs_of t) k.1.behind (omega arith) (subst (λ (gs : List ℕ). admits gs) k.1.is adm))
+    (divided wrapped wrote fresh s (parts c (entries s)))
+    (all_both (λ (t : Subtable). GoodSets t.sets) (λ (t : Subtable). PartOf (glyphs_of t) (glyphs_of s)) (divided wrapped wrote fresh s (parts c (entries s)))
+    (divided_sets_good c wrapped wrote fresh s (good.some, good.sets) f)
+    (divided_glyphs c wrapped wrote fresh s (sets_full s.sets good.sets)))

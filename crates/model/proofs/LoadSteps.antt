@@ -4,7 +4,7 @@ use Rattle.std.proofs.lemmas.Bool.{cases_lt}
 use Rattle.refusals.specs.declared.Refusal.{Refusal}
 use Rattle.words.specs.Grammar.{Stream}
 use Rattle.coverage.specs.Meaning.{Meant}
-use Rattle.model.specs.Loading.{Place, at_lookup, at_extension, at_subtable, at_coverage, at_set, at_ligature, path, Before, Kind, Stands, root, extension, plain, wrapped, coverage, set, ligature, Faulty}
+use Rattle.model.specs.Loading.{Place, at_lookup, at_extension, at_subtable, at_coverage, at_set, at_ligature, path, Before, Kind, Stands, root, extension, plain, wrapped, coverage, set, ligature, Faulty, FirstFault}
 use Rattle.model.proofs.LoadLists.{nth_below}
 
 before_none : (qs : List ℕ) → Before qs [] → ⊥
@@ -70,6 +70,15 @@ module _ (meaning : List ℕ → Option Meant) (s : Stream) where
   rooted_below (set i j k v t x y a b c d) = rooted_below a
   rooted_below (ligature i j k n c v t y g a b d e) = rooted_below a
 
+  lower_first : (p : Place) (n : ℕ) → first_number p < n → Before (path p) (n ∷ [])
+  unfolding first_number
+  lower_first (at_lookup i) n l = inl l
+  lower_first (at_extension i j) n l = inl l
+  lower_first (at_subtable i j) n l = inl l
+  lower_first (at_coverage i j) n l = inl l
+  lower_first (at_set i j k) n l = inl l
+  lower_first (at_ligature i j k n') n l = inl l
+
   from_first : (p : Place) (n : ℕ) → Before (path p) (n ∷ []) → first_number p < n
   unfolding first_number
   from_first (at_lookup i) n b = ⊎_elim (λ l. l) (λ e. absurd e.1) b
@@ -83,6 +92,10 @@ module _ (meaning : List ℕ → Option Meant) (s : Stream) where
   pub clear_start : Clear (0 ∷ [])
   clear_start p r b f = let l = from_first p 0 b in omega arith
 
+  -- a fault where all before is clear is the first
+  pub clear_fault : (p : Place) (r : Refusal) → Clear (path p) → Faulty meaning s p r → FirstFault meaning s r
+  clear_fault p r c f = record { place = p; faulty = f; first = c }
+
   -- on to the first child; a path that is no place's is passed by freely
   pub clear_into : (xs : List ℕ) → Clear xs → ((p : Place) → path p ≡ xs → SoundlyPlaced p) → Clear (xs ++ 0 ∷ [])
   clear_into xs c h p r b f = ⊎_elim (λ d. c p r d f) (λ e. h p e r f) (into xs (path p) b)
@@ -90,3 +103,7 @@ module _ (meaning : List ℕ → Option Meant) (s : Stream) where
   -- on to the next path, where from child b on nothing stands or nothing is faulty
   pub clear_past : (xs : List ℕ) (a b : ℕ) → Clear (xs ++ a ∷ b ∷ []) → ((p : Place) (c : ℕ) (zs : List ℕ) → b ≤ c → path p ≡ xs ++ a ∷ c ∷ zs → SoundlyPlaced p) → Clear (xs ++ suc a ∷ [])
   clear_past xs a b c h p r d f = ⊎_elim (λ e. c p r e f) (λ e. h p e.0 e.1 e.2 e.3 r f) (past xs a b (path p) d)
+
+  -- behind the last root all is clear
+  pub clear_end : (n : ℕ) → Clear (n ∷ []) → length s.roots ≤ n → (p : Place) → SoundlyPlaced p
+  clear_end n c l p r f = c p r (lower_first p n (let k = rooted_below f.stands in omega arith)) f

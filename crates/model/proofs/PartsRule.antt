@@ -283,6 +283,9 @@ module _ (c : ℕ) where
   pub short_subtables : (ss : List Subtable) → first_long c ss ≡ None → AllByRecursion (λ (s : Subtable). AllByRecursion (Fits c) (entries s)) ss
   short_subtables ss n = joined_all (Fits c) entries ss (short_entries (flat_map entries ss) n)
 
+  pub fit_entries : 16 ≤ c → (es : List Entry) → long_in c es ≡ None → Fit c es
+  fit_entries least es n = record { least = least; short = short_entries es n }
+
   pub fit_subtables : 16 ≤ c → (ss : List Subtable) → first_long c ss ≡ None → AllByRecursion (λ (s : Subtable). Fit c (entries s)) ss
   fit_subtables least ss n =
       All-weaker (λ (s : Subtable). AllByRecursion (Fits c) (entries s)) (λ (s : Subtable). Fit c (entries s)) (λ s a. record { least = least; short = a }) ss (short_subtables ss n)
