@@ -1,7 +1,16 @@
 -- What is known of glyph lists: rising order by places, their parts, and where a glyph stands.
-use Rattle.std.proofs.Common.{◌≡◌, ℕ, zero, suc, ◌+◌, ◌<◌, ◌≤◌, true, false, ◌&&◌, ltb, leb, ◌≢◌, List, [], ◌∷◌, ◌++◌, length, get_or, drop, Some, None, sym, refl, ap, ◌∙◌, inl, inr, ⊎_elim, arith, length-append}
-use Rattle.std.proofs.lemmas.List.{at_drop_more, at_drop_all}
-use Rattle.std.proofs.lemmas.Bool.{and_parts, and_from, ltb-true, leb-true, lt-ltb, le-ltb, le-leb, eq-eqb, ne_eqb, cases_Bool, cases_eq, cases_order}
+use Rattle.std.proofs.Common.{◌≡◌, ℕ, zero, suc, Bool, map, ◌+◌, ◌<◌, ◌≤◌, true, false, ◌&&◌, ltb, leb, ◌≢◌, List, [], ◌∷◌, ◌++◌, length, get_or, drop, Some, None, Ok, Err, Result, sym, refl, ap, ◌∙◌, inl, inr, arith, length-append}
+use Rattle.std.proofs.lemmas.List.{at_drop_more, at_drop_all, get_or-map, length-map}
+use Rattle.std.proofs.lemmas.Bool.{and_parts, and_from, ltb-true, leb-true, lt-ltb, le-ltb, le-leb, eq-eqb, ne_eqb, cases_Bool}
+use Rattle.std.proofs.lemmas.List.Sorted.{searchable_from_sorted}
+use Rattle.std.proofs.Math.Bool.{and-true}
+use Rattle.std.proofs.lemmas.Cmp.{nat_cmp_total}
+use Rattle.std.proofs.lemmas.Bool.Decides.{nat_tests}
+use Rattle.std.specs.declared.cmp.Ordering.TheVariants.{Equal}
+use Rattle.std.specs.List.{IsAllAdjacentAnswer, AllAdjacentBelow}
+use Rattle.std.specs.List.Sorted.{IsNonDecreasingBy, IsBinarySearchResult, IsSearchInRange}
+use Rattle.std.specs.Ordering.{nat_cmp, is_lt, ordering_index}
+use Rattle.std.specs.Result.{result_ok}
 use Rattle.coverage.specs.Glyphs.{above, rises, small, is_glyph_list_of, GlyphList, index_in}
 
 -- a glyph list by its parts
@@ -32,12 +41,9 @@ unfolding is_glyph_list_of
 list_by_rise gs a b = ap (λ t. t && (leb (length gs) 65535 && (rises gs && small gs))) (lt-ltb _ _ a) ∙ ap (λ t. t && (rises gs && small gs)) (le-leb _ _ b)
 
 -- the walk over a list
-pub walk_start : (gs : List ℕ) → 0 < length gs → get_or gs 0 0 < 65536 → (rises gs && small gs) ≡ (above (get_or gs 0 0) (drop 1 gs) && small (drop 1 gs))
-walk_start [] h s = absurd (omega arith)
-walk_start (x ∷ xs) h s = ap (λ t. above x xs && (t && small xs)) (lt-ltb _ _ s)
-
 pub walk_first : (gs : List ℕ) (x : ℕ) → 0 < length gs → x ≡ get_or gs 0 0 → x < 65536 → (rises gs && small gs) ≡ (above x (drop 1 gs) && small (drop 1 gs))
-walk_first gs x h e s = walk_start gs h (omega arith) ∙ ap (λ t. above t (drop 1 gs) && small (drop 1 gs)) (sym e)
+walk_first [] x h e s = absurd (omega arith)
+walk_first (y ∷ ys) x h e s = ap (λ t. above y ys && (t && small ys)) (lt-ltb y 65536 (omega arith)) ∙ ap (λ t. above t ys && small ys) (sym e)
 
 pub walk_on : (gs : List ℕ) (i x y : ℕ) → i < length gs → y ≡ get_or gs i 0 → x < y → y < 65536 → (above x (drop i gs) && small (drop i gs)) ≡ (above y (drop (i + 1) gs) && small (drop (i + 1) gs))
 walk_on gs i x y lt e up s =
@@ -74,19 +80,6 @@ rises_places [] h i j a b = absurd (omega arith)
 rises_places (x ∷ xs) h i zero a b = absurd (omega arith)
 rises_places (x ∷ xs) h zero (suc j) a b = above_all x xs h j (omega arith)
 rises_places (x ∷ xs) h (suc i) (suc j) a b = rises_places xs (above_rises x xs h) i j (omega arith) (omega arith)
-
-above_from : (x : ℕ) (ys : List ℕ) → ((k : ℕ) → k < length ys → x < get_or ys k 0) → rises ys ≡ true → above x ys ≡ true
-above_from x [] all r = refl
-above_from x (y ∷ ys) all r = and_from _ _ (lt-ltb _ _ (all 0 (omega arith))) r
-
-pub places_rise : (gs : List ℕ) → ((i j : ℕ) → i < j → j < length gs → get_or gs i 0 < get_or gs j 0) → rises gs ≡ true
-places_rise [] h = refl
-places_rise (x ∷ xs) h = above_from x xs (λ k lt. h 0 (suc k) (omega arith) (omega arith)) (places_rise xs (λ i j a b. h (suc i) (suc j) (omega arith) (omega arith)))
-
-pub small_places : (gs : List ℕ) → small gs ≡ true → (k : ℕ) → k < length gs → get_or gs k 0 < 65536
-small_places [] h k lt = absurd (omega arith)
-small_places (x ∷ xs) h zero lt = ltb-true _ _ (and_parts _ _ h).0
-small_places (x ∷ xs) h (suc k) lt = small_places xs (and_parts _ _ h).1 k (omega arith)
 
 pub places_small : (gs : List ℕ) → ((k : ℕ) → k < length gs → get_or gs k 0 < 65536) → small gs ≡ true
 places_small [] h = refl
@@ -127,6 +120,10 @@ list_parts xs ys zs h g =
       narrow = small_front ys zs (small_back xs (ys ++ zs) l.narrow);
     })
 
+-- with 16 bits each too, only the order is left
+pub list_of_rise : (gs : List ℕ) → 0 < length gs → length gs ≤ 65535 → ((k : ℕ) → k < length gs → get_or gs k 0 < 65536) → rises gs ≡ is_glyph_list_of gs
+list_of_rise gs some few narrow = sym (list_by_rise gs some few ∙ ap (λ t. rises gs && t) (places_small gs narrow) ∙ and-true (rises gs))
+
 -- where a glyph stands
 pub index_none : (g : ℕ) (gs : List ℕ) → ((k : ℕ) → k < length gs → get_or gs k 0 ≢ g) → index_in g gs ≡ None
 index_none g [] h = refl
@@ -144,42 +141,52 @@ index_at g (x ∷ xs) (suc k) r lt e =
     let i = index_at g xs k (above_rises x xs r) (omega arith) e in
     rw (b, i)
 
--- a search: the glyph g is nowhere before low, and nowhere from high on
-pub record Narrowed (gs : List ℕ) (g low high : ℕ) : Type 0 where
-  pub order : low ≤ high
-  pub within : high ≤ length gs
-  pub before : (k : ℕ) → k < low → get_or gs k 0 < g
-  pub behind : (k : ℕ) → high ≤ k → k < length gs → g < get_or gs k 0
+pub cmp_equal : (a b : ℕ) → nat_cmp a b ≡ Equal → a ≡ b
+cmp_equal a b h = grind (arith, nat_tests)
 
-pub narrowed_start : (gs : List ℕ) (g n : ℕ) → n ≡ length gs → Narrowed gs g 0 n
-narrowed_start gs g n e = record { order = omega arith; within = omega arith; before = λ k lt. absurd (omega arith); behind = λ k a b. absurd (omega arith) }
+cmp_not_less : (a b : ℕ) → a < b → is_lt (nat_cmp b a) ≡ false
+cmp_not_less a b h = grind (arith, nat_tests)
 
-module _ (gs : List ℕ) (g low high mid : ℕ) (up : rises gs ≡ true) (n : Narrowed gs g low high) (a : low ≤ mid) (b : mid < high) where
-  pub narrowed_up : get_or gs mid 0 < g → Narrowed gs g (mid + 1) high
-  narrowed_up lt =
-      let w = n.within in
-      record {
-        order = omega arith;
-        within = n.within;
-        before = λ k h. ⊎_elim (λ q. let e : get_or gs k 0 ≡ get_or gs mid 0 = ap (λ t. get_or gs t 0) q in omega arith)
-            (λ ne. let h' : k < mid = omega arith in let r = rises_places gs up k mid h' (omega arith) in omega arith) (cases_eq k mid);
-        behind = n.behind;
-      }
+-- slices whose elements have a number each: what `is_sorted_by` and the binary searches of std answer
+module _ {X : Type 0} (key : X → ℕ) where
+  adjacent_rise : (xs : List X) → AllAdjacentBelow (λ x y. true ≡ ltb (key x) (key y)) xs (length xs) → rises (map key xs) ≡ true
+  adjacent_rise [] h = refl
+  adjacent_rise (x ∷ []) h = refl
+  adjacent_rise (x ∷ y ∷ xs) h = and_from _ _ (sym (h 0 x (omega arith))) (adjacent_rise (y ∷ xs) (λ k d lt. h (suc k) d (omega arith) ∙ ap (λ j. ltb (key (get_or (y ∷ xs) k d)) (key (get_or (x ∷ y ∷ xs) j d))) {x = suc k + 1} {y = suc (k + 1)} (omega arith)))
 
-  pub narrowed_down : g < get_or gs mid 0 → Narrowed gs g low mid
-  narrowed_down lt =
-      let w = n.within in
-      record {
-        order = a;
-        within = omega arith;
-        before = n.before;
-        behind = λ k h l. ⊎_elim (λ q. let e : get_or gs k 0 ≡ get_or gs mid 0 = ap (λ t. get_or gs t 0) q in omega arith)
-            (λ ne. let h' : mid < k = omega arith in let r = rises_places gs up mid k h' l in omega arith) (cases_eq k mid);
-      }
+  key_at : (xs : List X) (k : ℕ) (d : X) → k < length xs → get_or (map key xs) k 0 ≡ key (get_or xs k d)
+  key_at xs k d lt = get_or-map key xs k d 0 lt
 
-pub narrowed_none : (gs : List ℕ) (g low high : ℕ) → Narrowed gs g low high → high ≤ low → index_in g gs ≡ None
-narrowed_none gs g low high n le =
-    index_none g gs (λ k lt q. ⊎_elim
-    (λ e. let r = n.behind k (omega arith) lt in omega arith)
-    (⊎_elim (λ l. let r = n.before k l in omega arith) (λ l. let r = n.behind k (omega arith) lt in omega arith))
-    (cases_order k low))
+  keys_rise : (xs : List X) → rises (map key xs) ≡ true → (k : ℕ) (d : X) → k + 1 < length xs → key (get_or xs k d) < key (get_or xs (k + 1) d)
+  keys_rise xs up k d lt =
+      let l = length-map xs key in
+      let a = key_at xs k d (omega arith) in
+      let b = key_at xs (k + 1) d lt in
+      let r = rises_places (map key xs) up k (k + 1) (omega arith) (omega arith) in
+      omega arith
+
+  pub rises_by : (xs : List X) (r : Bool) → IsAllAdjacentAnswer (λ x y b. b ≡ ltb (key x) (key y)) xs r → r ≡ rises (map key xs)
+  rises_by xs true h = sym (adjacent_rise xs h)
+  rises_by [] false h = let e = h.1 in absurd (omega arith)
+  rises_by (x ∷ xs) false h =
+      elim (cases_Bool (rises (map key (x ∷ xs)))) [
+        | inl t ↦
+            let up = lt-ltb _ _ (keys_rise (x ∷ xs) t h.0 x h.1) in
+            let down = h.2 x in
+            absurd (cc)
+        | inr f ↦ sym f
+      ]
+
+  pub ranked : (xs : List X) (g : ℕ) → rises (map key xs) ≡ true → IsNonDecreasingBy (λ y. ordering_index (nat_cmp (key y) g)) xs
+  ranked xs g up = searchable_from_sorted nat_cmp_total key xs g (λ k d a b. cmp_not_less _ _ (keys_rise xs up k d b))
+
+  pub searched_by : (xs : List X) (g : ℕ) (r : Result ℕ ℕ) → rises (map key xs) ≡ true → IsSearchInRange r (length xs) → IsBinarySearchResult (λ y. nat_cmp (key y) g) xs r → result_ok r ≡ index_in g (map key xs)
+  searched_by [] g (Ok i) up range at = absurd (omega arith)
+  searched_by (x ∷ xs) g (Ok i) up range at =
+      let l = length-map (x ∷ xs) key in
+      sym (index_at g (map key (x ∷ xs)) i up (omega arith) (key_at (x ∷ xs) i x range ∙ cmp_equal _ _ (at x)))
+  searched_by [] g (Err i) up range at = refl
+  searched_by (x ∷ xs) g (Err i) up range at =
+      let l = length-map (x ∷ xs) key in
+      let cut = at (ranked (x ∷ xs) g up) in
+      sym (index_none g (map key (x ∷ xs)) (λ k lt e. let kx = key_at (x ∷ xs) k x (omega arith) in let low = cut.0 k x in let high = cut.1 k x in grind (arith, nat_tests)))

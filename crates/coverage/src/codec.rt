@@ -3,6 +3,7 @@ ghost use Rattle.std.specs.Prelude.{◌≡◌, ℕ, ◌+◌, ◌*◌, ◌%◌, �
 ghost use Rattle.coverage.specs.Glyphs.{GlyphList};
 ghost use Rattle.coverage.specs.Meaning.{counted, ended, glyph_at, indexed, copied, Sized, Written};
 
+use crate::halving::halve;
 use refusals::CodecFault;
 
 /// Reads and writes coverage tables: glyph lists as bytes.
@@ -47,8 +48,8 @@ pub trait CoverageCodec {
         if count > out.len() {
             return Err(CodecFault::NoSpace);
         }
-        for i in 0..count {
-            out[i] = self.glyph(bytes, i)?;
+        for (i, place) in out[..count].iter_mut().enumerate() {
+            *place = self.glyph(bytes, i)?;
         }
         Ok(count)
     }
@@ -57,21 +58,8 @@ pub trait CoverageCodec {
     fn index_of(&self, bytes: &[u8], glyph: u16) -> Result<Option<usize>, CodecFault>
         ensures { result ≡ indexed (meaning self.now bytes.now) glyph }
     {
-        let mut low = 0;
-        let mut high = self.count(bytes)?;
-        while low < high {
-            let mid = low + (high - low) / 2;
-            let here = self.glyph(bytes, mid)?;
-            if here == glyph {
-                return Ok(Some(mid));
-            }
-            if here < glyph {
-                low = mid + 1;
-            } else {
-                high = mid;
-            }
-        }
-        Ok(None)
+        let count = self.count(bytes)?;
+        halve(count, |n| Ok(self.glyph(bytes, n)?.cmp(&glyph)))
     }
 
     // Bytes behind the end don't matter.

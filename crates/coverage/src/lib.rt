@@ -3,3 +3,4 @@
 
 pub mod codec;
 pub mod glyphs;
+pub mod halving;

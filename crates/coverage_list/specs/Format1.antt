@@ -1,5 +1,5 @@
 -- Coverage format 1 of OpenType: the value 1, the number of glyphs, and the glyphs in rising order.
-use Rattle.std.specs.Prelude.{ℕ, ◌+◌, ◌*◌, Bool, cond, ◌&&◌, List, ◌∷◌, length, Some, None, Option, ◌==◌, nat_le}
+use Rattle.std.specs.Prelude.{ℕ, ◌+◌, ◌*◌, Bool, cond, ◌&&◌, List, ◌∷◌, length, map, Some, None, Option, ◌==◌, nat_le}
 use Rattle.data_bytes.specs.BigEndian.{word16}
 use Rattle.data_bytes.specs.Values.{value_bytes, values_at}
 use Rattle.coverage.specs.Glyphs.{is_glyph_list_of}
@@ -25,3 +25,7 @@ array_bytes gs = value_bytes (1 ∷ length gs ∷ gs)
 
 abbrev pub array_span : List ℕ → ℕ
 array_span gs = 4 + 2 * length gs
+
+-- the glyphs that pairs of bytes spell
+abbrev pub pair_glyphs : List (List ℕ) → List ℕ
+pair_glyphs pairs = map (λ pair. word16 pair 0) pairs

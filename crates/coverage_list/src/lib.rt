@@ -1,11 +1,11 @@
 // The list codec: coverage format 1 alone, an array of glyphs.
 #![tactic(auto)]
 
-ghost use Rattle.std.specs.Prelude.{◌≡◌, ℕ, ◌+◌, ◌*◌, ◌<◌, ◌≤◌, true, ◌&&◌, List, ◌++◌, length, drop};
-ghost use Rattle.data_bytes.specs.Values.{values_at};
-ghost use Rattle.coverage.specs.Glyphs.{rises, small, GlyphList};
-ghost use Rattle.coverage.specs.Meaning.{counted, Sized, Written, written_as};
-ghost use Rattle.coverage_list.specs.Format1.{array_meaning, array_bytes, array_span};
+ghost use Rattle.std.specs.Prelude.{◌≡◌, ℕ, ◌+◌, ◌*◌, ◌≤◌, List, ◌++◌, length, drop, MatchResult};
+ghost use Rattle.data_bytes.specs.BigEndian.{word16};
+ghost use Rattle.coverage.specs.Glyphs.{GlyphList};
+ghost use Rattle.coverage.specs.Meaning.{Sized, Written, written_as};
+ghost use Rattle.coverage_list.specs.Format1.{pair_glyphs, array_meaning, array_bytes, array_span};
 ghost use Rattle.coverage_list.specs.Arrays;
 ghost use Rattle.coverage.proofs.Lists.{list_parts};
 ghost use Rattle.std.proofs.Common.{rules};
@@ -16,47 +16,30 @@ use data_bytes::{put_word, word_at};
 use refusals::CodecFault;
 
 /// Coverage format 1 and nothing else.
-#[derive(Clone, Copy)]
+#[derive(Clone, Copy, Default, PartialEq, Eq, Debug)]
 pub struct ListCodec;
 
-// Whether the glyphs of an array rise.
-fn array_rises(bytes: &[u8], count: usize) -> bool
-    requires { (0 < count) × (4 + 2 * count ≤ length bytes.now) }
-    ensures { result ≡ (rises (values_at bytes.now 4 count) && small (values_at bytes.now 4 count)) }
+// The glyph that two bytes spell.
+fn pair_glyph(pair: &[u8; 2]) -> u16
+    ensures { result ≡ word16 pair.now 0 }
 {
-    let mut last = word_at(bytes, 4);
-    for i in 1..count {
-        let glyph = word_at(bytes, 4 + 2 * i);
-        if glyph <= last {
-            return false;
-        }
-        last = glyph;
-    }
-    true
+    u16::from_be_bytes(*pair)
 }
 
-// How many glyphs the bytes mean; everything is tested here.
-fn array_count(bytes: &[u8]) -> Result<usize, CodecFault>
-    ensures { result ≡ counted (array_meaning bytes.now) }
+// The glyphs that the bytes mean, two bytes each; everything is tested here.
+fn array_pairs(bytes: &[u8]) -> Result<&[[u8; 2]], CodecFault>
+    ensures { MatchResult result (λ pairs. array_meaning bytes.now ≡ Some (pair_glyphs pairs.now, 4 + 2 * length pairs.now)) (λ fault. (fault ≡ CodecFault.NoMeaning) × (array_meaning bytes.now ≡ None)) }
 {
-    if bytes.len() < 4 {
+    if bytes.len() < 4 || word_at(bytes, 0) != 1 {
         return Err(CodecFault::NoMeaning);
     }
-    if word_at(bytes, 0) != 1 {
+    let end = 4 + 2 * word_at(bytes, 2) as usize;
+    let glyphs = bytes.get(4..end).ok_or(CodecFault::NoMeaning)?;
+    let (pairs, _) = glyphs.as_chunks::<2>();
+    if pairs.is_empty() || !pairs.is_sorted_by(|a, b| pair_glyph(a) < pair_glyph(b)) {
         return Err(CodecFault::NoMeaning);
     }
-    let count = word_at(bytes, 2) as usize;
-    if count == 0 {
-        return Err(CodecFault::NoMeaning);
-    }
-    if bytes.len() < 4 + 2 * count {
-        return Err(CodecFault::NoMeaning);
-    }
-    if array_rises(bytes, count) {
-        Ok(count)
-    } else {
-        Err(CodecFault::NoMeaning)
-    }
+    Ok(pairs)
 }
 
 /// Writes a glyph list in format 1 to the front of a slice that is long enough. For codecs that have tested both.
@@ -66,8 +49,9 @@ pub fn write_array(glyphs: &[u16], out: &mut [u8])
 {
     put_word(out, 0, 1);
     put_word(out, 2, glyphs.len() as u16);
-    for i in 0..glyphs.len() {
-        put_word(out, 4 + 2 * i, glyphs[i]);
+    // By place: nothing is said of a slice once `as_chunks_mut` of it is over.
+    for (i, glyph) in glyphs.iter().enumerate() {
+        put_word(out, 4 + 2 * i, *glyph);
     }
 }
 
@@ -95,20 +79,16 @@ impl CoverageCodec for ListCodec {
     ghost spans = { λ c gs h. Arrays.spans gs };
 
     fn count(&self, bytes: &[u8]) -> Result<usize, CodecFault> {
-        array_count(bytes)
+        Ok(array_pairs(bytes)?.len())
     }
 
     fn end(&self, bytes: &[u8]) -> Result<usize, CodecFault> {
-        Ok(4 + 2 * array_count(bytes)?)
+        Ok(4 + 2 * array_pairs(bytes)?.len())
     }
 
     fn glyph(&self, bytes: &[u8], n: usize) -> Result<u16, CodecFault> {
-        let count = array_count(bytes)?;
-        if n < count {
-            Ok(word_at(bytes, 4 + 2 * n))
-        } else {
-            Err(CodecFault::PastEnd)
-        }
+        let pairs = array_pairs(bytes)?;
+        pairs.get(n).map(pair_glyph).ok_or(CodecFault::PastEnd)
     }
 
     fn size(&self, glyphs: &[u16]) -> Result<usize, CodecFault> {
@@ -132,31 +112,20 @@ impl CoverageCodec for ListCodec {
     }
 
     fn glyphs_into(&self, bytes: &[u8], out: &mut [u16]) -> Result<usize, CodecFault> {
-        let count = array_count(bytes)?;
+        let pairs = array_pairs(bytes)?;
+        let count = pairs.len();
         if count > out.len() {
             return Err(CodecFault::NoSpace);
         }
-        for i in 0..count {
-            out[i] = word_at(bytes, 4 + 2 * i);
+        // By index: once a zip with `iter_mut` is over, a proof knows none of the elements.
+        for (i, pair) in pairs.iter().enumerate() {
+            out[i] = pair_glyph(pair);
         }
         Ok(count)
     }
 
     fn index_of(&self, bytes: &[u8], glyph: u16) -> Result<Option<usize>, CodecFault> {
-        let mut low = 0;
-        let mut high = array_count(bytes)?;
-        while low < high {
-            let mid = low + (high - low) / 2;
-            let here = word_at(bytes, 4 + 2 * mid);
-            if here == glyph {
-                return Ok(Some(mid));
-            }
-            if here < glyph {
-                low = mid + 1;
-            } else {
-                high = mid;
-            }
-        }
-        Ok(None)
+        let pairs = array_pairs(bytes)?;
+        Ok(pairs.binary_search_by_key(&glyph, pair_glyph).ok())
     }
 }

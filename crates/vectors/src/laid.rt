@@ -2,10 +2,5 @@
 
 /// Whether the slice begins with `front`, and holds `spare` everywhere behind it.
 pub fn is_laid<T: PartialEq + Copy>(out: &[T], front: &[T], spare: T) -> bool {
-    for (i, found) in out.iter().enumerate() {
-        if *found != front.get(i).copied().unwrap_or(spare) {
-            return false;
-        }
-    }
-    front.len() <= out.len()
+    out.starts_with(front) && out[front.len()..].iter().all(|found| *found == spare)
 }

@@ -32,50 +32,44 @@ const ARRAY_END: usize = 131074;
 
 const RANGES_END: usize = 393214;
 
+// The glyph that is `index` behind the first, and 0 behind 65,535.
+fn counted(first: u16, index: usize) -> u16 {
+    ((first as usize + index % 65536) % 65536) as u16
+}
+
 // Fills the slice with the glyphs from `first` on.
 fn count_up(glyphs: &mut [u16], first: u16) {
     for (i, glyph) in glyphs.iter_mut().enumerate() {
-        *glyph = ((first as usize + i % 65536) % 65536) as u16;
+        *glyph = counted(first, i);
     }
 }
 
 // The value that stands at `at`, in values of 16 bits, in a format 1 table of 65,535 glyphs from `first` on.
-fn array_value(at: usize, first: u16) -> usize {
+fn array_value(at: usize, first: u16) -> u16 {
     match at {
         0 => 1,
         1 => 65535,
-        _ => first as usize + (at - 2) % 65536,
+        _ => counted(first, at - 2),
     }
 }
 
 // The same in a format 2 table that has a range for each of these glyphs: start, end, index. Each touches the next.
-fn ranges_value(at: usize, first: u16) -> usize {
+fn ranges_value(at: usize, first: u16) -> u16 {
     match at {
         0 => 2,
         1 => 65535,
-        _ => {
-            let index = (at - 2) / 3 % 65536;
-            if at % 3 == 1 {
-                index
-            } else {
-                first as usize + index
-            }
-        }
+        _ if at % 3 == 1 => counted(0, (at - 2) / 3),
+        _ => counted(first, (at - 2) / 3),
     }
 }
 
-fn lay(bytes: &mut [u8], is_array: bool, first: u16) {
-    for (i, byte) in bytes.iter_mut().enumerate() {
-        let value = if is_array {
-            array_value(i / 2, first)
-        } else {
-            ranges_value(i / 2, first)
-        };
-        *byte = if i % 2 == 0 {
-            (value / 256 % 256) as u8
-        } else {
-            (value % 256) as u8
-        };
+// Fills the slice with values of 16 bits, by the place of each.
+fn lay<F: Fn(usize) -> u16>(bytes: &mut [u8], value: F)
+    requires { F.IsAlwaysCallable value }
+{
+    let (pairs, _) = bytes.as_chunks_mut::<2>();
+    for (i, pair) in pairs.iter_mut().enumerate() {
+        *pair = value(i).to_be_bytes();
     }
 }
 
@@ -87,7 +81,7 @@ fn in_an_array(
     out: &mut [u16],
     written: &mut [u8],
 ) -> bool {
-    lay(bytes, true, run.first);
+    lay(bytes, |at| array_value(at, run.first));
     means(&ListCodec, bytes, glyphs, ARRAY_END, run.absent, out)
         && means(&OpenTypeCodec, bytes, glyphs, ARRAY_END, run.absent, out)
         && is_written(&ListCodec, glyphs, bytes, written)
@@ -101,7 +95,7 @@ fn in_ranges(
     out: &mut [u16],
     written: &mut [u8],
 ) -> bool {
-    lay(bytes, false, run.first);
+    lay(bytes, |at| ranges_value(at, run.first));
     means(&OpenTypeCodec, bytes, glyphs, RANGES_END, run.absent, out)
         && means_nothing(&ListCodec, bytes, out)
         && means(&OpenTypeCodec, run.range, glyphs, 10, run.absent, out)

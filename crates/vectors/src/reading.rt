@@ -329,11 +329,11 @@ const MEANINGLESS: [Broken; 34] = [
 /// Whether each call refuses the bytes, and none changes the slice.
 pub fn means_nothing<C: CoverageCodec>(codec: &C, bytes: &[u8], out: &mut [u16]) -> bool {
     out.fill(SPARE);
-    matches!(codec.count(bytes), Err(CodecFault::NoMeaning))
-        && matches!(codec.end(bytes), Err(CodecFault::NoMeaning))
-        && matches!(codec.glyph(bytes, 0), Err(CodecFault::NoMeaning))
-        && matches!(codec.index_of(bytes, 10), Err(CodecFault::NoMeaning))
-        && matches!(codec.glyphs_into(bytes, out), Err(CodecFault::NoMeaning))
+    codec.count(bytes) == Err(CodecFault::NoMeaning)
+        && codec.end(bytes) == Err(CodecFault::NoMeaning)
+        && codec.glyph(bytes, 0) == Err(CodecFault::NoMeaning)
+        && codec.index_of(bytes, 10) == Err(CodecFault::NoMeaning)
+        && codec.glyphs_into(bytes, out) == Err(CodecFault::NoMeaning)
         && is_laid(out, &[], SPARE)
 }
 
@@ -349,7 +349,7 @@ fn copies<C: CoverageCodec>(
         return false;
     }
     out.fill(SPARE);
-    match codec.glyphs_into(bytes, &mut out[0..room]) {
+    match codec.glyphs_into(bytes, &mut out[..room]) {
         Ok(count) => count == glyphs.len() && count <= room && is_laid(out, glyphs, SPARE),
         Err(CodecFault::NoSpace) => room < glyphs.len() && is_laid(out, &[], SPARE),
         Err(_) => false,
@@ -358,16 +358,15 @@ fn copies<C: CoverageCodec>(
 
 // Whether the n-th glyph is at n, and the other way about.
 fn has_glyph<C: CoverageCodec>(codec: &C, bytes: &[u8], n: usize, glyph: u16) -> bool {
-    matches!(codec.glyph(bytes, n), Ok(found) if found == glyph)
-        && matches!(codec.index_of(bytes, glyph), Ok(Some(at)) if at == n)
+    codec.glyph(bytes, n) == Ok(glyph) && codec.index_of(bytes, glyph) == Ok(Some(n))
 }
 
 // Whether it is the end, and no glyph is behind the last.
 fn ends<C: CoverageCodec>(codec: &C, bytes: &[u8], count: usize, end: usize) -> bool {
-    matches!(codec.count(bytes), Ok(found) if found == count)
-        && matches!(codec.end(bytes), Ok(found) if found == end)
-        && matches!(codec.glyph(bytes, count), Err(CodecFault::PastEnd))
-        && matches!(codec.glyph(bytes, usize::MAX), Err(CodecFault::PastEnd))
+    codec.count(bytes) == Ok(count)
+        && codec.end(bytes) == Ok(end)
+        && codec.glyph(bytes, count) == Err(CodecFault::PastEnd)
+        && codec.glyph(bytes, usize::MAX) == Err(CodecFault::PastEnd)
 }
 
 /// Whether the bytes mean these glyphs and not the absent one, by every call. The slice has room for one glyph more.
@@ -390,7 +389,7 @@ pub fn means<C: CoverageCodec>(
     count > 0
         && count < out.len()
         && ends(codec, bytes, count, end)
-        && matches!(codec.index_of(bytes, absent), Ok(None))
+        && codec.index_of(bytes, absent) == Ok(None)
         && copies(codec, bytes, glyphs, out, count - 1)
         && copies(codec, bytes, glyphs, out, count)
         && copies(codec, bytes, glyphs, out, count + 1)
@@ -398,8 +397,8 @@ pub fn means<C: CoverageCodec>(
 
 // Cut off before its end a table means nothing; bytes behind its end do not matter.
 fn reads<C: CoverageCodec>(codec: &C, case: &Covering, out: &mut [u16]) -> bool {
-    for n in 0..case.bytes.len() + 1 {
-        let front = &case.bytes[0..n];
+    for n in 0..=case.bytes.len() {
+        let front = &case.bytes[..n];
         let is_read = if n < case.end {
             means_nothing(codec, front, out)
         } else {
@@ -414,8 +413,8 @@ fn reads<C: CoverageCodec>(codec: &C, case: &Covering, out: &mut [u16]) -> bool 
 
 // Nor does any front of bytes that mean nothing mean something.
 fn reads_nothing<C: CoverageCodec>(codec: &C, bytes: &[u8], out: &mut [u16]) -> bool {
-    for n in 0..bytes.len() + 1 {
-        if !means_nothing(codec, &bytes[0..n], out) {
+    for n in 0..=bytes.len() {
+        if !means_nothing(codec, &bytes[..n], out) {
             return false;
         }
     }

@@ -208,7 +208,7 @@ fn writes<C: CoverageCodec>(
         return false;
     }
     out.fill(SPARE);
-    match codec.write(glyphs, &mut out[0..room]) {
+    match codec.write(glyphs, &mut out[..room]) {
         Ok(size) => size == bytes.len() && size <= room && is_laid(out, bytes, SPARE),
         Err(CodecFault::NoSpace) => room < bytes.len() && is_laid(out, &[], SPARE),
         Err(_) => false,
@@ -225,7 +225,7 @@ pub fn is_written<C: CoverageCodec>(
     let size = bytes.len();
     size > 0
         && size < out.len()
-        && matches!(codec.size(glyphs), Ok(found) if found == size)
+        && codec.size(glyphs) == Ok(size)
         && writes(codec, glyphs, bytes, out, 0)
         && writes(codec, glyphs, bytes, out, size - 1)
         && writes(codec, glyphs, bytes, out, size)
@@ -235,9 +235,9 @@ pub fn is_written<C: CoverageCodec>(
 /// Whether the codec refuses the glyphs, in any room, and leaves the slice.
 pub fn admits_not<C: CoverageCodec>(codec: &C, glyphs: &[u16], out: &mut [u8]) -> bool {
     out.fill(SPARE);
-    matches!(codec.size(glyphs), Err(CodecFault::NotAdmitted))
-        && matches!(codec.write(glyphs, &mut []), Err(CodecFault::NotAdmitted))
-        && matches!(codec.write(glyphs, out), Err(CodecFault::NotAdmitted))
+    codec.size(glyphs) == Err(CodecFault::NotAdmitted)
+        && codec.write(glyphs, &mut []) == Err(CodecFault::NotAdmitted)
+        && codec.write(glyphs, out) == Err(CodecFault::NotAdmitted)
         && is_laid(out, &[], SPARE)
 }
 

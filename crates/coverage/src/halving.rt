@@ -1,0 +1,28 @@
+// A search by halving through calls that can fail, for which std has none.
+ghost use Rattle.std.specs.Prelude.{◌≡◌, ℕ, ◌<◌, Result};
+ghost use Rattle.std.specs.declared.cmp.Ordering.{Ordering};
+ghost use Rattle.coverage.specs.Halving.{IsHalvingResult};
+
+use std::cmp::Ordering;
+
+/// An index below `count` for which `probe` answers `Equal`, if there is one, or a fault that it answers.
+/// Its answers are to rise with the index: `Less` first, and `Greater` last.
+pub fn halve<E, F: Fn(usize) -> Result<Ordering, E>>(
+    count: usize,
+    probe: F,
+) -> Result<Option<usize>, E>
+    requires { F.IsAlwaysCallable probe }
+    ensures { (answer : ℕ → Result Ordering E) → ((k : ℕ) (r : Result Ordering E) → k < count → F.post probe k r → r ≡ answer k) → IsHalvingResult answer count result }
+{
+    let mut low = 0;
+    let mut high = count;
+    while low < high {
+        let mid = low + (high - low) / 2;
+        match probe(mid)? {
+            Ordering::Less => low = mid + 1,
+            Ordering::Equal => return Ok(Some(mid)),
+            Ordering::Greater => high = mid,
+        }
+    }
+    Ok(None)
+}
