@@ -72,7 +72,7 @@ pub struct Counts {
 }
 
 /// The used rows and bytes of a graph, lent to be read.
-#[derive(Clone, Copy)]
+#[derive(Clone, Copy, PartialEq, Eq, Debug)]
 pub struct GraphView<'a> {
     pub vertices: &'a [VertexRow],
     pub links: &'a [LinkRow],
