@@ -17,7 +17,7 @@ use Rattle.model.proofs.LoadSame.{has_first, has_later, has_cases, has_none}
 use Rattle.model.proofs.LoadBack.{at_position}
 use Rattle.graph.specs.Memory.{behind_all, slot_row, virtual_rows}
 use Rattle.graph.specs.Filling.{size_of, row_width, stream_rows, insert_by, ordered, clipped, block_of}
-use Rattle.loose.specs.Faults.{wide}
+use Rattle.rows.specs.Kinds.{wide}
 use Rattle.loose.proofs.Order.{ordered_shuffled}
 
 abbrev pub place : Slot → ℕ

@@ -18,7 +18,8 @@ use Rattle.model.proofs.LoadBack.{at_position}
 use Rattle.graph.specs.declared.VertexRow.{VertexRow}
 use Rattle.graph.specs.Memory.{behind_all, vertex_at, slot_row, virtual_rows}
 use Rattle.graph.specs.Filling.{size_of, ordered, block_of, blocks_from}
-use Rattle.loose.specs.Faults.{wide, Twins}
+use Rattle.rows.specs.Kinds.{wide}
+use Rattle.loose.specs.Faults.{Twins}
 use Rattle.loose.specs.Faults as fault
 use Rattle.loose.proofs.Order.{Rise, ordered_shuffled, ordered_rise}
 use Rattle.loose.proofs.Scan.{last, Wrong, Free, Stops, free_split, stops-split, Lower, lower_more, last_lower}

@@ -1,17 +1,9 @@
 -- Link rows that do not fit their memory: one that leads to no vertex, a real one that passes its owner's end, two real ones at one place.
 use Rattle.std.specs.Prelude.{◌≡◌, ℕ, zero, suc, ◌+◌, ◌<◌, ◌≤◌, List, length, Some, None, Option, slice_index_or}
 use Rattle.rows.specs.declared.LinkRow.{LinkRow}
-use Rattle.rows.specs.declared.LinkWidth.{LinkWidth}
-use Rattle.rows.specs.declared.LinkWidth.TheVariants.{Zero, Two, Four}
-use Rattle.rows.specs.Kinds.{zero_link}
+use Rattle.rows.specs.Kinds.{wide, zero_link}
 use Rattle.graph.specs.declared.VertexRow.{VertexRow}
 use Rattle.graph.specs.Memory.{vertex_at}
-
--- how many bytes of its owner's part an offset takes; a virtual link has none
-abbrev pub wide : LinkWidth → ℕ
-wide Zero = 0
-wide Two = 2
-wide Four = 4
 
 abbrev pub row_at : List LinkRow → ℕ → LinkRow
 row_at rows i = slice_index_or rows i zero_link

@@ -2,23 +2,10 @@
 #![tactic(auto)]
 
 ghost use Rattle.std.specs.Prelude.{◌≡◌, ◌<◌, ◌≤◌, length, Decides, MatchOption};
-ghost use Rattle.loose.specs.Faults.{wide, Twins, Faulty, Faultless, FirstFault, Owned};
+ghost use Rattle.loose.specs.Faults.{Twins, Faulty, Faultless, FirstFault, Owned};
 
 use graph::VertexRow;
-use rows::{LinkRow, LinkWidth};
-
-/// How many bytes of its owner's table a link's offset takes.
-// A `From` between two types of other crates is refused; the match is as short.
-fn offset_bytes(width: LinkWidth) -> usize
-    ensures is { result ≡ wide width }
-    ensures small { result ≤ 4 }
-{
-    match width {
-        LinkWidth::Zero => 0,
-        LinkWidth::Two => 2,
-        LinkWidth::Four => 4,
-    }
-}
+use rows::LinkRow;
 
 /// Whether a link and the one in front of it are real ones at one position of one table.
 fn are_twins(before: Option<LinkRow>, row: LinkRow) -> bool
@@ -27,7 +14,7 @@ fn are_twins(before: Option<LinkRow>, row: LinkRow) -> bool
     let Some(other) = before else {
         return false;
     };
-    let both_real = offset_bytes(other.width) > 0 && offset_bytes(row.width) > 0;
+    let both_real = usize::from(other.width) > 0 && usize::from(row.width) > 0;
     both_real && (other.owner, other.position) == (row.owner, row.position)
 }
 
@@ -38,7 +25,7 @@ fn is_faulty(vertices: &[VertexRow], links: &[LinkRow], index: usize) -> bool
     ensures { Decides result (Faulty vertices.now links.now index) }
 {
     let row = links[index];
-    let bytes = offset_bytes(row.width);
+    let bytes = usize::from(row.width);
     let end = row.position as usize + bytes;
     let nowhere = row.target as usize >= vertices.len();
     let beyond = bytes > 0 && end > vertices[row.owner as usize].size as usize;

@@ -7,7 +7,7 @@ ghost use Rattle.std.specs.List.Sorted.{IsSearchInRange};
 ghost use Rattle.std.proofs.Common.{rules};
 ghost use Rattle.rows.specs.declared.RowKey.{RowKey};
 ghost use Rattle.rows.specs.Keys.{precedes};
-ghost use Rattle.rows.specs.Kinds.{link_key, zero_link, parent_key, zero_parent};
+ghost use Rattle.rows.specs.Kinds.{wide, link_key, zero_link, parent_key, zero_parent};
 ghost use Rattle.rows.specs.Rows.{Rising, row_of, with_row, without_row, Laid, Answered, OnePut, OneLess, Spot};
 ghost use Rattle.rows.specs.Views.{lent, in_use, spare, SameSlice};
 ghost use Rattle.rows.specs.Laws.{Lexicographic, Ordered, Irreflexive, Transitive, RisingPairs, RisingFromNeighbours, LookUpSound, LookUpComplete, FoundAfterPut, OthersAfterPut, GoneAfterRemove, OthersAfterRemove, RisingAfterPut, RisingAfterRemove, CountAfterPut, CountAfterRemove, ToldByLookUps};
@@ -52,6 +52,18 @@ pub enum LinkWidth {
     Zero,
     Two,
     Four,
+}
+
+impl From<LinkWidth> for usize {
+    ghost from_gives = { λ width bytes. bytes ≡ wide width };
+
+    fn from(width: LinkWidth) -> usize {
+        match width {
+            LinkWidth::Zero => 0,
+            LinkWidth::Two => 2,
+            LinkWidth::Four => 4,
+        }
+    }
 }
 
 /// A link from one table to another. The links of one owner are a list, by position.
