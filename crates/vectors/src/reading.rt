@@ -1,4 +1,10 @@
 // Short coverage tables: what the codecs read from them, whole and cut off at every length.
+ghost use Rattle.coverage.specs.Glyphs.{GlyphList};
+ghost use Rattle.coverage.proofs.Lists.{list_parts};
+ghost use Rattle.coverage_list.specs.Format1.{array_meaning, array_span};
+ghost use Rattle.coverage_list.specs.Arrays;
+ghost use Rattle.std.proofs.Common.{rules};
+
 use crate::laid::is_laid;
 use coverage::codec::CoverageCodec;
 use coverage_list::ListCodec;
@@ -326,6 +332,53 @@ const MEANINGLESS: [Broken; 34] = [
     },
 ];
 
+// The list codec again, with the bodies that the trait brings for `glyphs_into` and `index_of`.
+struct ByGlyph;
+
+impl CoverageCodec for ByGlyph {
+    ghost admits = { λ _. GlyphList };
+
+    ghost meaning = { λ _. array_meaning };
+
+    ghost span = { λ _. array_span };
+
+    ghost front = { λ c. Arrays.front };
+
+    ghost within = { λ c. Arrays.within };
+
+    ghost even = { λ c. Arrays.even };
+
+    ghost short = { λ c. Arrays.short };
+
+    ghost sound = { λ c. Arrays.sound };
+
+    ghost listed = { Prim.search rules };
+
+    ghost parts = { λ c. list_parts };
+
+    ghost spans = { λ c gs h. Arrays.spans gs };
+
+    fn count(&self, bytes: &[u8]) -> Result<usize, CodecFault> {
+        ListCodec.count(bytes)
+    }
+
+    fn end(&self, bytes: &[u8]) -> Result<usize, CodecFault> {
+        ListCodec.end(bytes)
+    }
+
+    fn glyph(&self, bytes: &[u8], n: usize) -> Result<u16, CodecFault> {
+        ListCodec.glyph(bytes, n)
+    }
+
+    fn size(&self, glyphs: &[u16]) -> Result<usize, CodecFault> {
+        ListCodec.size(glyphs)
+    }
+
+    fn write(&self, glyphs: &[u16], out: &mut [u8]) -> Result<usize, CodecFault> {
+        ListCodec.write(glyphs, out)
+    }
+}
+
 /// Whether each call refuses the bytes, and none changes the slice.
 pub fn means_nothing<C: CoverageCodec>(codec: &C, bytes: &[u8], out: &mut [u16]) -> bool {
     out.fill(SPARE);
@@ -425,7 +478,9 @@ fn reads_nothing<C: CoverageCodec>(codec: &C, bytes: &[u8], out: &mut [u16]) -> 
 fn arrays_are_read(rt: HostRuntime) {
     for case in ARRAYS.iter() {
         let mut out = [SPARE; ROOM];
-        let is_right = reads(&ListCodec, case, &mut out) && reads(&OpenTypeCodec, case, &mut out);
+        let is_right = reads(&ListCodec, case, &mut out)
+            && reads(&ByGlyph, case, &mut out)
+            && reads(&OpenTypeCodec, case, &mut out);
         assert!(rt; is_right, "{}", case.name);
     }
 }
