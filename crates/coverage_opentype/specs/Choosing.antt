@@ -1,11 +1,11 @@
 -- The OpenType codec: bytes mean something in one format at most, and the shorter format is written.
-use Rattle.std.specs.Prelude.{◌≡◌, ℕ, ◌+◌, ◌*◌, ◌%◌, ◌<◌, ◌≤◌, true, false, ◌&&◌, ◌⊎◌, List, ◌++◌, length, take, drop, Some, None, Ok, Err, Option, ◌==◌, nat_le, refl}
+use Rattle.std.specs.Prelude.{◌≡◌, ℕ, ◌+◌, ◌*◌, ◌%◌, ◌<◌, ◌≤◌, false, ◌&&◌, ◌⊎◌, List, ◌++◌, length, take, drop, Some, None, Ok, Err, Option, ◌==◌, nat_le, refl}
 use Rattle.std.proofs.Common.{sym, ap, ◌∙◌, inl, inr, ⊎_elim, arith}
-use Rattle.std.proofs.lemmas.Bool.{both_ways, and_parts, and_from, eqb-true, le-leb, lt-leb, lt-ltb, le-ltb, eq-eqb, cases_lt, cond-true, cond-false}
-use Rattle.refusals.specs.declared.CodecFault.TheVariants.{NoSpace, NotAdmitted}
+use Rattle.std.proofs.lemmas.Bool.{both_ways, and_from, le-leb, lt-leb, lt-ltb, le-ltb, eq-eqb, cases_lt, cond-true, cond-false}
+use Rattle.refusals.specs.declared.CodecFault.TheVariants.{NoSpace}
 use Rattle.data_bytes.specs.BigEndian.{word16}
 use Rattle.data_bytes.proofs.ValueLists.{laid}
-use Rattle.coverage.specs.Glyphs.{is_glyph_list_of, GlyphList}
+use Rattle.coverage.specs.Glyphs.{GlyphList}
 use Rattle.coverage.specs.Meaning.{Meant, written_as}
 use Rattle.coverage_list.specs.Format1.{array_meaning, array_bytes, array_span}
 use Rattle.coverage_list.specs.Arrays as arrays
@@ -22,22 +22,17 @@ use Rattle.coverage_opentype.specs.Rendering.{length-range_bytes}
 two_no_array : (bs : List ℕ) → word16 bs 0 ≡ 2 → array_meaning bs ≡ None
 two_no_array bs e = no_array bs (λ a. let o = a.one in omega arith)
 
--- which of the two
-pub by_ranges : (bs : List ℕ) → (nat_le 4 (length bs) && word16 bs 0 == 2) ≡ true → range_meaning bs ≡ open_type_meaning bs
-unfolding open_type_meaning
-by_ranges bs h =
-    let p = and_parts (nat_le 4 (length bs)) (word16 bs 0 == 2) h in
-    sym (ap (λ t. or_else t (range_meaning bs)) (two_no_array bs (eqb-true (word16 bs 0) 2 p.1)))
-
-or_none : (m : Option Meant) → m ≡ or_else m None
+-- bytes that are no table of ranges
+or_none : (m : Option Meant) → or_else m None ≡ m
 or_none None = refl
 or_none (Some m) = refl
 
-pub by_array : (bs : List ℕ) → (nat_le 4 (length bs) && word16 bs 0 == 2) ≡ false → array_meaning bs ≡ open_type_meaning bs
+pub meant_by_array : (bs : List ℕ) → range_meaning bs ≡ None → open_type_meaning bs ≡ array_meaning bs
 unfolding open_type_meaning
-by_array bs h =
-    let n = no_table_lem bs (λ t. both_ways _ h (and_from _ _ (le-leb _ _ t.four) (eq-eqb _ _ t.two))) in
-    or_none (array_meaning bs) ∙ sym (ap (or_else (array_meaning bs)) n)
+meant_by_array bs h = ap (or_else (array_meaning bs)) h ∙ or_none (array_meaning bs)
+
+pub by_array : (bs : List ℕ) → (nat_le 4 (length bs) && word16 bs 0 == 2) ≡ false → array_meaning bs ≡ open_type_meaning bs
+by_array bs h = sym (meant_by_array bs (no_table_lem bs (λ t. both_ways _ h (and_from _ _ (le-leb _ _ t.four) (eq-eqb _ _ t.two)))))
 
 -- a meaning is one of the two formats'
 data EitherFormat (bs gs : List ℕ) (e : ℕ) : Type 0 where
@@ -56,7 +51,7 @@ meant_by_glyphs : (bs : List ℕ) (m : Meant) → array_meaning bs ≡ Some m �
 unfolding open_type_meaning
 meant_by_glyphs bs m h = ap (λ t. or_else t (range_meaning bs)) h
 
-meant_by_runs : (bs gs : List ℕ) (e : ℕ) → range_meaning bs ≡ Some (gs, e) → open_type_meaning bs ≡ Some (gs, e)
+pub meant_by_runs : (bs gs : List ℕ) (e : ℕ) → range_meaning bs ≡ Some (gs, e) → open_type_meaning bs ≡ Some (gs, e)
 unfolding open_type_meaning
 meant_by_runs bs gs e h = ap (λ t. or_else t (range_meaning bs)) (two_no_array bs (ranges.meaning bs gs e h).is.two) ∙ h
 
@@ -80,67 +75,62 @@ short bs gs e h = elim (either bs gs e h) [ by_glyphs a ↦ arrays.short bs gs e
 pub sound : (bs gs : List ℕ) (e : ℕ) → open_type_meaning bs ≡ Some (gs, e) → GlyphList gs
 sound bs gs e h = elim (either bs gs e h) [ by_glyphs a ↦ arrays.sound bs gs e a | by_runs r ↦ ranges.sound bs gs e r ]
 
--- the choice, where one knows how many runs there are
-module _ (gs : List ℕ) (n : ℕ) (is : n ≡ length (runs gs)) where
-  span_ranges : 6 * n < 2 * length gs → open_type_span gs ≡ range_span gs
-  span_ranges lt = cond-true _ _ _ (lt-ltb (6 * length (runs gs)) (2 * length gs) (omega arith))
+-- the choice
+module _ (gs : List ℕ) where
+  module _ (lt : 6 * length (runs gs) < 2 * length gs) where
+    pub span_ranges : open_type_span gs ≡ range_span gs
+    span_ranges = cond-true _ _ _ (lt-ltb (6 * length (runs gs)) (2 * length gs) lt)
 
-  span_array : 2 * length gs ≤ 6 * n → open_type_span gs ≡ array_span gs
-  span_array le = cond-false _ _ _ (le-ltb (6 * length (runs gs)) (2 * length gs) (omega arith))
+    bytes_ranges : open_type_bytes gs ≡ range_bytes gs
+    bytes_ranges = cond-true _ _ _ (lt-ltb (6 * length (runs gs)) (2 * length gs) lt)
 
-  bytes_ranges : 6 * n < 2 * length gs → open_type_bytes gs ≡ range_bytes gs
-  bytes_ranges lt = cond-true _ _ _ (lt-ltb (6 * length (runs gs)) (2 * length gs) (omega arith))
+    pub laid_ranges : (old now : List ℕ) → now ≡ range_bytes gs ++ drop (range_span gs) old → now ≡ laid (open_type_bytes gs) old
+    laid_ranges old now w = w ∙ ap (λ z. range_bytes gs ++ drop z old) (sym (length-range_bytes gs)) ∙ ap (λ z. laid z old) (sym bytes_ranges)
 
-  bytes_array : 2 * length gs ≤ 6 * n → open_type_bytes gs ≡ array_bytes gs
-  bytes_array le = cond-false _ _ _ (le-ltb (6 * length (runs gs)) (2 * length gs) (omega arith))
+  module _ (le : 2 * length gs ≤ 6 * length (runs gs)) where
+    pub span_array : open_type_span gs ≡ array_span gs
+    span_array = cond-false _ _ _ (le-ltb (6 * length (runs gs)) (2 * length gs) le)
 
-  pub size_ranges : 6 * n < 2 * length gs → 4 + 6 * n ≡ open_type_span gs
-  size_ranges lt = let s = span_ranges lt in omega arith
+    bytes_array : open_type_bytes gs ≡ array_bytes gs
+    bytes_array = cond-false _ _ _ (le-ltb (6 * length (runs gs)) (2 * length gs) le)
 
-  pub size_array : 2 * length gs ≤ 6 * n → 4 + 2 * length gs ≡ open_type_span gs
-  size_array le = let s = span_array le in omega arith
+    pub laid_array : (old now : List ℕ) → now ≡ array_bytes gs ++ drop (array_span gs) old → now ≡ laid (open_type_bytes gs) old
+    laid_array old now w = w ∙ ap (λ z. array_bytes gs ++ drop z old) (sym (length-array_bytes gs)) ∙ ap (λ z. laid z old) (sym bytes_array)
 
-  pub wrote_ranges : (old now : List ℕ) → GlyphList gs → 6 * n < 2 * length gs → now ≡ range_bytes gs ++ drop (range_span gs) old → open_type_meaning now ≡ Some (gs, open_type_span gs)
-  wrote_ranges old now g lt w =
-      ap open_type_meaning w ∙ meant_by_runs _ gs (range_span gs) (rendering.bytes_mean gs (drop (range_span gs) old) g) ∙ ap (λ z. Some (gs, z)) (sym (span_ranges lt))
+  pub length-open_type_bytes : length (open_type_bytes gs) ≡ open_type_span gs
+  length-open_type_bytes =
+      ⊎_elim
+      (λ lt. ap length (bytes_ranges lt) ∙ length-range_bytes gs ∙ sym (span_ranges lt))
+      (λ le. ap length (bytes_array le) ∙ length-array_bytes gs ∙ sym (span_array le))
+      (cases_lt (6 * length (runs gs)) (2 * length gs))
 
-  pub wrote_array : (old now : List ℕ) → GlyphList gs → 2 * length gs ≤ 6 * n → now ≡ array_bytes gs ++ drop (array_span gs) old → open_type_meaning now ≡ Some (gs, open_type_span gs)
-  wrote_array old now g le w =
-      ap open_type_meaning w ∙ meant_by_glyphs _ (gs, array_span gs) (arrays.bytes_mean gs (drop (array_span gs) old) g) ∙ ap (λ z. Some (gs, z)) (sym (span_array le))
+  pub spans : (open_type_span gs % 2 ≡ 0) × (open_type_span gs ≤ 4 + 6 * length gs)
+  spans =
+      let f = runs_few gs in
+      ⊎_elim (λ lt. let s = span_ranges lt in (omega arith, omega arith)) (λ le. let s = span_array le in (omega arith, omega arith)) (cases_lt (6 * length (runs gs)) (2 * length gs))
 
-  pub fixed_ranges : (old now : List ℕ) → 6 * n < 2 * length gs → now ≡ range_bytes gs ++ drop (range_span gs) old → now ≡ laid (open_type_bytes gs) old
-  fixed_ranges old now lt w = w ∙ ap (λ z. range_bytes gs ++ drop z old) (sym (length-range_bytes gs)) ∙ ap (λ z. laid z old) (sym (bytes_ranges lt))
+  -- what is written means the list
+  bytes_mean : (more : List ℕ) → GlyphList gs → open_type_meaning (open_type_bytes gs ++ more) ≡ Some (gs, open_type_span gs)
+  bytes_mean more g =
+      ⊎_elim
+      (λ lt.
+      ap (λ z. open_type_meaning (z ++ more)) (bytes_ranges lt) ∙ meant_by_runs (range_bytes gs ++ more) gs (range_span gs) (rendering.bytes_mean gs more g) ∙ ap (λ z. Some (gs, z)) (sym (span_ranges lt)))
+      (λ le.
+      ap (λ z. open_type_meaning (z ++ more)) (bytes_array le) ∙ meant_by_glyphs (array_bytes gs ++ more) (gs, array_span gs) (arrays.bytes_mean gs more g) ∙ ap (λ z. Some (gs, z)) (sym (span_array le)))
+      (cases_lt (6 * length (runs gs)) (2 * length gs))
 
-  pub fixed_array : (old now : List ℕ) → 2 * length gs ≤ 6 * n → now ≡ array_bytes gs ++ drop (array_span gs) old → now ≡ laid (open_type_bytes gs) old
-  fixed_array old now le w = w ∙ ap (λ z. array_bytes gs ++ drop z old) (sym (length-array_bytes gs)) ∙ ap (λ z. laid z old) (sym (bytes_array le))
+  -- the outcome of a write
+  pub wrote_means : (old now : List ℕ) → GlyphList gs → now ≡ laid (open_type_bytes gs) old → open_type_meaning now ≡ Some (gs, open_type_span gs)
+  wrote_means old now g w = ap open_type_meaning w ∙ bytes_mean (drop (length (open_type_bytes gs)) old) g
 
-pub length-open_type_bytes : (gs : List ℕ) → length (open_type_bytes gs) ≡ open_type_span gs
-length-open_type_bytes gs =
-    ⊎_elim
-    (λ lt. ap length (bytes_ranges gs (length (runs gs)) refl lt) ∙ length-range_bytes gs ∙ sym (span_ranges gs (length (runs gs)) refl lt))
-    (λ le. ap length (bytes_array gs (length (runs gs)) refl le) ∙ length-array_bytes gs ∙ sym (span_array gs (length (runs gs)) refl le))
-    (cases_lt (6 * length (runs gs)) (2 * length gs))
+  pub wrote : (old now : List ℕ) (n : ℕ) → GlyphList gs → n ≡ open_type_span gs → n ≤ length old → now ≡ laid (open_type_bytes gs) old → (Ok n, now) ≡ written_as gs (open_type_bytes gs) old
+  wrote old now n g e room w =
+      let l = length-open_type_bytes in
+      let out : written_as gs (open_type_bytes gs) old ≡ (Ok (length (open_type_bytes gs)), laid (open_type_bytes gs) old) =
+      cond-true _ _ _ g ∙ cond-true _ _ _ (le-leb (length (open_type_bytes gs)) (length old) (omega arith)) in
+      ap (λ z. (Ok z, now)) (e ∙ sym l) ∙ ap (λ z. (Ok (length (open_type_bytes gs)), z)) w ∙ sym out
 
-pub spans : (gs : List ℕ) → (open_type_span gs % 2 ≡ 0) × (open_type_span gs ≤ 4 + 6 * length gs)
-spans gs =
-    let f = runs_few gs in
-    ⊎_elim
-    (λ lt. let s = span_ranges gs (length (runs gs)) refl lt in (omega arith, omega arith))
-    (λ le. let s = span_array gs (length (runs gs)) refl le in (omega arith, omega arith))
-    (cases_lt (6 * length (runs gs)) (2 * length gs))
-
--- the outcome of a write
-pub wrote : (gs old now : List ℕ) (n : ℕ) → GlyphList gs → n ≡ open_type_span gs → n ≤ length old → now ≡ laid (open_type_bytes gs) old → (Ok n, now) ≡ written_as gs (open_type_bytes gs) old
-wrote gs old now n g e room w =
-    let l = length-open_type_bytes gs in
-    let out : written_as gs (open_type_bytes gs) old ≡ (Ok (length (open_type_bytes gs)), laid (open_type_bytes gs) old) =
-    cond-true _ _ _ g ∙ cond-true _ _ _ (le-leb (length (open_type_bytes gs)) (length old) (omega arith)) in
-    ap (λ z. (Ok z, now)) (e ∙ sym l) ∙ ap (λ z. (Ok (length (open_type_bytes gs)), z)) w ∙ sym out
-
-pub wrote_no_space : (gs old : List ℕ) (n : ℕ) → GlyphList gs → n ≡ open_type_span gs → length old < n → (Err NoSpace, old) ≡ written_as gs (open_type_bytes gs) old
-wrote_no_space gs old n g e lt =
-    let l = length-open_type_bytes gs in
-    sym (cond-true _ _ _ g ∙ cond-false _ _ _ (lt-leb (length (open_type_bytes gs)) (length old) (omega arith)))
-
-pub wrote_not_admitted : (gs old bytes : List ℕ) → is_glyph_list_of gs ≡ false → (Err NotAdmitted, old) ≡ written_as gs bytes old
-wrote_not_admitted gs old bytes h = sym (cond-false _ _ _ h)
+  pub wrote_no_space : (old : List ℕ) (n : ℕ) → GlyphList gs → n ≡ open_type_span gs → length old < n → (Err NoSpace, old) ≡ written_as gs (open_type_bytes gs) old
+  wrote_no_space old n g e lt =
+      let l = length-open_type_bytes in
+      sym (cond-true _ _ _ g ∙ cond-false _ _ _ (lt-leb (length (open_type_bytes gs)) (length old) (omega arith)))

@@ -1,6 +1,6 @@
 -- Coverage format 2 of OpenType: the value 2, the number of ranges, and the ranges, each a start glyph, an end glyph and the coverage index of its start.
-use Rattle.std.specs.Prelude.{ℕ, suc, ◌+◌, ◌-◌, ◌*◌, ◌<◌, Bool, true, cond, ◌&&◌, List, [], ◌∷◌, ◌++◌, map, length, Some, None, Option, ◌==◌, nat_le, slice_index_or}
-use Rattle.std.specs.List.{range_with_len}
+use Rattle.std.specs.Prelude.{ℕ, suc, ◌+◌, ◌-◌, ◌*◌, ◌<◌, Bool, true, cond, ◌&&◌, List, [], ◌∷◌, map, length, Some, None, Option, ◌==◌, nat_le, slice_index_or}
+use Rattle.std.specs.List.{flat_map, range_with_len}
 use Rattle.data_bytes.specs.BigEndian.{word16}
 use Rattle.data_bytes.specs.Values.{value_bytes}
 use Rattle.coverage.specs.Glyphs.{is_glyph_list_of}
@@ -13,8 +13,7 @@ covers r = range_with_len r.start (suc r.end - r.start)
 
 -- the glyphs of ranges, one range after the other
 abbrev pub covered : List GlyphRange → List ℕ
-covered [] = []
-covered (r ∷ rs) = covers r ++ covered rs
+covered rs = flat_map covers rs
 
 -- no range ends before it starts
 abbrev pub forward : List GlyphRange → Bool
@@ -34,6 +33,17 @@ numbered n (r ∷ rs) = r.index == n && numbered (n + length (covers r)) rs
 -- the ranges of a table: rising without overlap, counted from 0
 unfoldable pub in_order : List GlyphRange → Bool
 in_order rs = forward rs && (apart 0 rs && numbered 0 rs)
+
+-- the range record that six bytes spell
+abbrev pub range_of : List ℕ → GlyphRange
+range_of bytes = record { start = word16 bytes 0; end = word16 bytes 2; index = word16 bytes 4 }
+
+-- the three values of a range record, and the six bytes that spell them
+abbrev pub record_values : GlyphRange → List ℕ
+record_values r = r.start ∷ r.end ∷ r.index ∷ []
+
+abbrev pub record_bytes : GlyphRange → List ℕ
+record_bytes r = value_bytes (record_values r)
 
 -- the k-th range record
 abbrev pub range_at_of : List ℕ → ℕ → GlyphRange
@@ -57,6 +67,10 @@ is_ranges bs =
 unfoldable pub range_meaning : List ℕ → Option Meant
 range_meaning bs = cond (is_ranges bs) (Some (covered (ranges_at bs (word16 bs 2)), range_end_of bs)) None
 
+-- what a table of these ranges means
+abbrev pub meant : List GlyphRange → Meant
+meant rs = (covered rs, 4 + 6 * length rs)
+
 -- the unbroken runs of a list whose run at hand goes from start to last, and began at the glyph of that index
 abbrev pub runs_from : ℕ → ℕ → ℕ → List ℕ → List GlyphRange
 runs_from start last index [] = record { start = start; end = last; index = index } ∷ []
@@ -75,8 +89,7 @@ abbrev pub Gaps : List GlyphRange → Type 0
 Gaps rs = (k : ℕ) (d : GlyphRange) → suc k < length rs → suc (slice_index_or rs k d).end < (slice_index_or rs (suc k) d).start
 
 abbrev pub range_values : List GlyphRange → List ℕ
-range_values [] = []
-range_values (r ∷ rs) = r.start ∷ r.end ∷ r.index ∷ range_values rs
+range_values rs = flat_map record_values rs
 
 -- the bytes of a list in format 2: a range for each unbroken run
 abbrev pub range_bytes : List ℕ → List ℕ

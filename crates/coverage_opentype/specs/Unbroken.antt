@@ -1,8 +1,7 @@
--- Unbroken runs: they are ranges in order that cover the list, with gaps between them, and the only such ranges; how they are counted and written.
-use Rattle.std.specs.Prelude.{◌≡◌, ℕ, zero, suc, ◌+◌, ◌-◌, ◌<◌, ◌≤◌, true, cond, List, [], ◌∷◌, ◌++◌, length, drop, ◌==◌, ◌≢◌, nat_le, nat_lt, slice_index, slice_index_or, refl}
+-- Unbroken runs: they are ranges in order that cover the list, with gaps between them, and the only such ranges.
+use Rattle.std.specs.Prelude.{◌≡◌, ℕ, zero, suc, ◌+◌, ◌-◌, ◌<◌, ◌≤◌, true, List, [], ◌∷◌, ◌++◌, length, ◌==◌, ◌≢◌, nat_le, nat_lt, slice_index_or, refl}
 use Rattle.std.proofs.Common.{sym, ap, ◌∙◌, subst, ⊎_elim, append_assoc, arith}
 use Rattle.std.specs.List.{range_with_len}
-use Rattle.std.proofs.lemmas.List.{at_drop_more, at_drop_all}
 use Rattle.std.proofs.lemmas.Bool.{and_parts, and_from, ltb-true, leb-true, eqb-true, le-leb, eq-eqb, ne_eqb, cases_eq, cond-true, cond-false}
 use Rattle.coverage.specs.Glyphs.{above, rises}
 use Rattle.coverage_opentype.specs.declared.ranges.GlyphRange.{GlyphRange}
@@ -117,7 +116,7 @@ gaps_of_runs [] up = λ k d lt. absurd (omega arith)
 gaps_of_runs (g ∷ gs) up = gaps_runs g g 0 gs up
 
 -- ranges with gaps are the runs of what they cover
-runs_through : (s l i k : ℕ) (gs : List ℕ) → runs_from s l i (range_with_len (l + 1) k ++ gs) ≡ runs_from s (l + k) i gs
+pub runs_through : (s l i k : ℕ) (gs : List ℕ) → runs_from s l i (range_with_len (l + 1) k ++ gs) ≡ runs_from s (l + k) i gs
 runs_through s l i zero gs = ap (λ t. runs_from s t i gs) (omega arith)
 runs_through s l i (suc k) gs =
     runs_on s l i (l + 1) (range_with_len (l + 1 + 1) k ++ gs) (omega arith)
@@ -164,75 +163,15 @@ runs_of_covered (r ∷ rs) o g =
     ∙ runs_back r.start r.end 0 rs p.1 n' (subst (λ (t : GlyphRange). Gaps (t ∷ rs)) (sym is) g)
     ∙ ap (λ t. t ∷ rs) is
 
--- how many runs: one, and one more at each break
-abbrev break_at : ℕ → ℕ → ℕ
-break_at l g = cond (g == suc l) 0 1
-
-abbrev pub breaks : ℕ → List ℕ → ℕ
-breaks l [] = 0
-breaks l (g ∷ gs) = break_at l g + breaks g gs
-
-pub length_runs : (s l i : ℕ) (gs : List ℕ) → length (runs_from s l i gs) ≡ suc (breaks l gs)
-length_runs s l i [] = refl
-length_runs s l i (g ∷ gs) =
+-- a run has a glyph
+length-runs_from : (s l i : ℕ) (gs : List ℕ) → length (runs_from s l i gs) ≤ suc (length gs)
+length-runs_from s l i [] = omega arith
+length-runs_from s l i (g ∷ gs) =
     ⊎_elim
-    (λ e.
-    let h = length_runs s g i gs in
-    let b : break_at l g ≡ 0 = cond-true (g == suc l) 0 1 (eq-eqb g (suc l) e) in
-    ap length (runs_on s l i g gs e) ∙ omega arith)
-    (λ ne.
-    let h = length_runs g g (i + (suc l - s)) gs in
-    let b : break_at l g ≡ 1 = cond-false (g == suc l) 0 1 (ne_eqb g (suc l) ne) in
-    ap length (runs_break s l i g gs ne) ∙ omega arith)
+    (λ e. let h = length-runs_from s g i gs in let r = ap length (runs_on s l i g gs e) in omega arith)
+    (λ ne. let h = length-runs_from g g (i + (suc l - s)) gs in let r = ap length (runs_break s l i g gs ne) in omega arith)
     (cases_eq g (suc l))
-
-breaks_few : (l : ℕ) (gs : List ℕ) → breaks l gs ≤ length gs
-breaks_few l [] = omega arith
-breaks_few l (g ∷ gs) =
-    let h = breaks_few g gs in
-    ⊎_elim (λ e. let b : break_at l g ≡ 0 = cond-true (g == suc l) 0 1 (eq-eqb g (suc l) e) in omega arith) (λ ne. let b : break_at l g ≡ 1 = cond-false (g == suc l) 0 1 (ne_eqb g (suc l) ne) in omega arith) (cases_eq g (suc l))
 
 pub runs_few : (gs : List ℕ) → length (runs gs) ≤ length gs
 runs_few [] = omega arith
-runs_few (g ∷ gs) = let a = length_runs g g 0 gs in let b = breaks_few g gs in omega arith
-
--- counting on: the glyph behind the last one seen
-module _ (gs : List ℕ) (i last g : ℕ) (lt : i < length gs) (is : g ≡ slice_index gs i) where
-  breaks_step : breaks last (drop i gs) ≡ break_at last g + breaks g (drop (i + 1) gs)
-  breaks_step = at_drop_more (breaks last) gs i 0 lt ∙ ap (λ t. break_at last t + breaks t (drop (i + 1) gs)) (sym is)
-
-  pub breaks_none : last < g → g - last ≤ 1 → breaks last (drop i gs) ≡ breaks g (drop (i + 1) gs)
-  breaks_none up near =
-      let e : g ≡ suc last = omega arith in
-      let b : break_at last g ≡ 0 = cond-true (g == suc last) 0 1 (eq-eqb g (suc last) e) in
-      let s = breaks_step in
-      omega arith
-
-  pub breaks_more : 1 < g - last → breaks last (drop i gs) ≡ 1 + breaks g (drop (i + 1) gs)
-  breaks_more far =
-      let b : break_at last g ≡ 1 = cond-false (g == suc last) 0 1 (ne_eqb g (suc last) (λ e. omega arith)) in
-      let s = breaks_step in
-      omega arith
-
-  -- and the same of the runs themselves
-  pub runs_longer : (s j : ℕ) → last < g → g - last ≤ 1 → runs_from s last j (drop i gs) ≡ runs_from s g j (drop (i + 1) gs)
-  runs_longer s j up near =
-      let e : g ≡ suc last = omega arith in
-      at_drop_more (runs_from s last j) gs i 0 lt ∙ ap (λ t. runs_from s last j (t ∷ drop (i + 1) gs)) (sym is) ∙ runs_on s last j g (drop (i + 1) gs) e
-
-  pub runs_next : (s j : ℕ) → 1 < g - last → runs_from s last j (drop i gs) ≡ run s last j ∷ runs_from g g (j + (suc last - s)) (drop (i + 1) gs)
-  runs_next s j far =
-      at_drop_more (runs_from s last j) gs i 0 lt ∙ ap (λ t. runs_from s last j (t ∷ drop (i + 1) gs)) (sym is) ∙ runs_break s last j g (drop (i + 1) gs) (λ e. omega arith)
-
-pub runs_begin : (gs : List ℕ) (g : ℕ) → 0 < length gs → g ≡ slice_index gs 0 → runs gs ≡ runs_from g g 0 (drop 1 gs)
-runs_begin [] g h e = absurd (omega arith)
-runs_begin (x ∷ xs) g h e = ap (λ t. runs_from t t 0 xs) (sym e)
-
-pub runs_counted : (gs : List ℕ) (g : ℕ) → 0 < length gs → g ≡ slice_index gs 0 → 1 + breaks g (drop 1 gs) ≡ length (runs gs)
-runs_counted gs g h e =
-    let l = length_runs g g 0 (drop 1 gs) in
-    let r = ap length (runs_begin gs g h e) in
-    omega arith
-
-pub breaks_end : (gs : List ℕ) (i last : ℕ) → length gs ≤ i → breaks last (drop i gs) ≡ 0
-breaks_end gs i last le = at_drop_all (breaks last) gs i le
+runs_few (g ∷ gs) = length-runs_from g g 0 gs

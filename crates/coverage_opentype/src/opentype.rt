@@ -1,38 +1,34 @@
 // The OpenType codec over the two formats.
-ghost use Rattle.std.specs.Prelude.{◌≡◌, ℕ, true, ◌&&◌, List, length, ◌==◌, nat_le};
-ghost use Rattle.data_bytes.specs.BigEndian.{word16};
+ghost use Rattle.std.specs.Prelude.{◌≡◌, ℕ, List, MatchOption, Some};
 ghost use Rattle.coverage.specs.Glyphs.{GlyphList};
 ghost use Rattle.coverage.specs.Meaning.{Sized, Written, written_as};
+ghost use Rattle.coverage_list.specs.Format1.{array_meaning};
+ghost use Rattle.coverage_opentype.specs.Format2.{meant};
 ghost use Rattle.coverage_opentype.specs.OpenType.{open_type_meaning, open_type_bytes, open_type_span, RunsAreUnbroken};
 ghost use Rattle.coverage_opentype.specs.Planning.{Planned};
 ghost use Rattle.coverage_opentype.specs.Choosing;
 ghost use Rattle.coverage.proofs.Lists.{list_parts};
 ghost use Rattle.std.proofs.Common.{rules};
 
-use crate::ranges::{
-    range_count, range_end, range_glyph, range_index, ranges_into, run_count, write_ranges,
-};
+use crate::ranges::{RangeTable, run_count, write_ranges};
 use coverage::codec::CoverageCodec;
 use coverage_list::{ListCodec, write_array};
-use data_bytes::word_at;
 use refusals::CodecFault;
 
 /// Coverage formats 1 and 2; writes the shorter, and format 1 where they tie.
-#[derive(Clone, Copy)]
+#[derive(Clone, Copy, Debug, Default, PartialEq, Eq)]
 pub struct OpenTypeCodec;
 
-// Whether the bytes begin as a format 2 table does.
-fn has_ranges(bytes: &[u8]) -> bool
-    ensures { result ≡ (nat_le 4 (length bytes.now) && word16 bytes.now 0 == 2) }
+// The ranges of a format 2 table. Other bytes mean what they mean in format 1.
+fn ranges_of(bytes: &[u8]) -> Option<RangeTable<'_>>
+    ensures { MatchOption result (open_type_meaning bytes.now ≡ array_meaning bytes.now) (λ ranges. open_type_meaning bytes.now ≡ Some (meant ranges)) }
 {
-    if bytes.len() < 4 {
-        return false;
-    }
-    word_at(bytes, 0) == 2
+    RangeTable::read(bytes).ok()
 }
 
 /// The two formats as a list is laid out in them.
-#[derive(Clone, Copy)]
+// Not an `Option` of the count: `None` would have to mean format 1.
+#[derive(Clone, Copy, Debug, PartialEq, Eq)]
 pub enum Layout {
     /// Format 1.
     Array,
@@ -41,7 +37,7 @@ pub enum Layout {
 }
 
 /// How a glyph list is to be written: the format, and the bytes that it takes.
-#[derive(Clone, Copy)]
+#[derive(Clone, Copy, Debug, PartialEq, Eq)]
 pub struct Plan {
     pub layout: Layout,
     pub size: usize,
@@ -51,9 +47,7 @@ pub struct Plan {
 pub fn shorter_plan(glyphs: &[u16]) -> Result<Plan, CodecFault>
     ensures { Planned glyphs.now result }
 {
-    let Some(count) = run_count(glyphs) else {
-        return Err(CodecFault::NotAdmitted);
-    };
+    let count = run_count(glyphs).ok_or(CodecFault::NotAdmitted)?;
     if 6 * count < 2 * glyphs.len() {
         Ok(Plan {
             layout: Layout::Ranges { count },
@@ -91,26 +85,23 @@ impl CoverageCodec for OpenTypeCodec {
     ghost spans = { λ c gs h. Choosing.spans gs };
 
     fn count(&self, bytes: &[u8]) -> Result<usize, CodecFault> {
-        if has_ranges(bytes) {
-            range_count(bytes)
-        } else {
-            ListCodec.count(bytes)
+        match ranges_of(bytes) {
+            Some(table) => Ok(table.count()),
+            None => ListCodec.count(bytes),
         }
     }
 
     fn end(&self, bytes: &[u8]) -> Result<usize, CodecFault> {
-        if has_ranges(bytes) {
-            range_end(bytes)
-        } else {
-            ListCodec.end(bytes)
+        match ranges_of(bytes) {
+            Some(table) => Ok(table.end()),
+            None => ListCodec.end(bytes),
         }
     }
 
     fn glyph(&self, bytes: &[u8], n: usize) -> Result<u16, CodecFault> {
-        if has_ranges(bytes) {
-            range_glyph(bytes, n)
-        } else {
-            ListCodec.glyph(bytes, n)
+        match ranges_of(bytes) {
+            Some(table) => table.glyph(n),
+            None => ListCodec.glyph(bytes, n),
         }
     }
 
@@ -135,25 +126,21 @@ impl CoverageCodec for OpenTypeCodec {
     }
 
     fn glyphs_into(&self, bytes: &[u8], out: &mut [u16]) -> Result<usize, CodecFault> {
-        if has_ranges(bytes) {
-            ranges_into(bytes, out)
-        } else {
-            ListCodec.glyphs_into(bytes, out)
+        match ranges_of(bytes) {
+            Some(table) => table.copy_to(out),
+            None => ListCodec.glyphs_into(bytes, out),
         }
     }
 
     fn index_of(&self, bytes: &[u8], glyph: u16) -> Result<Option<usize>, CodecFault> {
-        if has_ranges(bytes) {
-            range_index(bytes, glyph)
-        } else {
-            ListCodec.index_of(bytes, glyph)
+        match ranges_of(bytes) {
+            Some(table) => Ok(table.index_of(glyph)),
+            None => ListCodec.index_of(bytes, glyph),
         }
     }
 }
 
 /// A theorem: the ranges that are written are the unbroken runs, and no other ranges are.
-pub fn runs_are_unbroken() -> u8
+pub fn runs_are_unbroken()
     ensures { RunsAreUnbroken }
-{
-    0
-}
+{}

@@ -1,51 +1,98 @@
 // Coverage format 2: ranges of glyphs.
-ghost use Rattle.std.specs.Prelude.{◌≡◌, ℕ, ◌+◌, ◌-◌, ◌*◌, ◌<◌, ◌≤◌, true, List, ◌++◌, length, take, drop};
+ghost use Rattle.std.specs.Prelude.{◌≡◌, ℕ, suc, ◌==◌, ◌+◌, ◌-◌, ◌*◌, ◌<◌, ◌≤◌, true, List, ◌++◌, Some, map, length, take, drop};
 ghost use Rattle.std.specs.List.{range_with_len};
-ghost use Rattle.data_bytes.specs.BigEndian.{put16};
 ghost use Rattle.coverage.specs.Glyphs.{GlyphList, index_in};
-ghost use Rattle.coverage.specs.Meaning.{counted, ended, glyph_at, indexed, copied};
-ghost use Rattle.coverage_opentype.specs.Format2.{covers, range_at_of, ranges_at, covered, in_order, range_meaning, runs, range_bytes, range_span};
-ghost use Rattle.coverage_opentype.specs.Checked.{Totalled, RangesRead, placed, RunsCounted};
+ghost use Rattle.coverage.specs.Meaning.{glyph_at, copied};
+ghost use Rattle.coverage_opentype.specs.Format2.{range_of, record_bytes, covers, covered, meant, runs, range_bytes, range_span};
+ghost use Rattle.coverage_opentype.specs.Checked.{Totalled, TableRead, RunsCounted};
 
+use coverage::glyphs::is_glyph_list;
 use data_bytes::{put_word, word_at};
 use refusals::CodecFault;
+use std::cmp::Ordering;
+use std::marker::Model;
 
 /// A range record: the glyphs from `start` to `end`, the first of them at the coverage index `index`.
-#[derive(Clone, Copy)]
+#[derive(Clone, Copy, Debug, PartialEq, Eq)]
 pub struct GlyphRange {
     pub start: u16,
     pub end: u16,
     pub index: u16,
 }
 
-/// A table whose ranges are in order: how many there are, and how many glyphs they cover.
-#[derive(Clone, Copy)]
-pub struct RangeTable {
-    pub ranges: usize,
-    pub glyphs: usize,
-}
+impl From<[u8; 6]> for GlyphRange {
+    ghost from_gives = { λ bytes range. range ≡ range_of bytes };
 
-// The k-th range record.
-fn range_at(bytes: &[u8], k: usize) -> GlyphRange
-    requires { 10 + 6 * k ≤ length bytes.now }
-    ensures { result ≡ range_at_of bytes.now k }
-{
-    GlyphRange {
-        start: word_at(bytes, 4 + 6 * k),
-        end: word_at(bytes, 6 + 6 * k),
-        index: word_at(bytes, 8 + 6 * k),
+    fn from(bytes: [u8; 6]) -> GlyphRange {
+        GlyphRange {
+            start: u16::from_be_bytes([bytes[0], bytes[1]]),
+            end: u16::from_be_bytes([bytes[2], bytes[3]]),
+            index: u16::from_be_bytes([bytes[4], bytes[5]]),
+        }
     }
 }
 
-// How many glyphs the first ranges cover, if they are in order.
-fn range_total(bytes: &[u8], ranges: usize) -> Option<usize>
-    requires { 4 + 6 * ranges ≤ length bytes.now }
-    ensures { Totalled (ranges_at bytes.now ranges) result }
+impl From<GlyphRange> for [u8; 6] {
+    ghost from_gives = { λ range bytes. bytes ≡ record_bytes range };
+
+    fn from(range: GlyphRange) -> [u8; 6] {
+        let start = range.start.to_be_bytes();
+        let end = range.end.to_be_bytes();
+        let index = range.index.to_be_bytes();
+        [start[0], start[1], end[0], end[1], index[0], index[1]]
+    }
+}
+
+impl GlyphRange {
+    // Copies its glyphs to the place that its index tells.
+    fn copy_to(self, out: &mut [u16])
+        requires { (self.start ≤ self.end) × (self.index + (self.end + 1 - self.start) ≤ length out.old) }
+        ensures { out.new ≡ take self.index out.old ++ (covers self ++ drop (self.index + length (covers self)) out.old) }
+    {
+        let at = self.index as usize;
+        let count = self.end as usize + 1 - self.start as usize;
+        count_up(self.start, &mut out[at..at + count]);
+    }
+}
+
+// Fills a slice with the numbers from `start` on.
+fn count_up(start: u16, slots: &mut [u16])
+    requires { start + length slots.old ≤ 65536 }
+    ensures { slots.new ≡ range_with_len start (length slots.old) }
+{
+    for (offset, slot) in slots.iter_mut().enumerate() {
+        *slot = start + offset as u16;
+    }
+}
+
+/// The ranges of a format 2 table that means something, each as its six bytes.
+#[derive(Drop)]
+pub struct RangeTable<'a> {
+    records: &'a [[u8; 6]],
+    glyphs: usize,
+}
+
+// Seen as its ranges. They are in order, and `glyphs` counts what they cover: no more than a coverage may.
+impl<'a> Model for RangeTable<'a> {
+    ghost use Rattle.std.specs.Prelude.{◌≡◌, ◌≤◌, List, true, map, length};
+    ghost use Rattle.coverage_opentype.specs.declared.ranges.GlyphRange.{GlyphRange};
+    ghost use Rattle.coverage_opentype.specs.Format2.{range_of, covered, in_order};
+
+    ghost Value = { List GlyphRange };
+
+    ghost view = { λ t. map range_of t.records.now };
+
+    ghost invariant = { λ t. (in_order (map range_of t.records.now) ≡ true) × (t.glyphs ≡ length (covered (map range_of t.records.now))) × (t.glyphs ≤ 65535) };
+}
+
+// How many glyphs ranges cover, if they are in order.
+fn covered_count(records: &[[u8; 6]]) -> Option<usize>
+    ensures { Totalled (map range_of records.now) result }
 {
     let mut low: usize = 0;
     let mut total: usize = 0;
-    for k in 0..ranges {
-        let range = range_at(bytes, k);
+    for record in records {
+        let range = GlyphRange::from(*record);
         let start = range.start as usize;
         let end = range.end as usize;
         if start < low || end < start || range.index as usize != total {
@@ -57,172 +104,118 @@ fn range_total(bytes: &[u8], ranges: usize) -> Option<usize>
     Some(total)
 }
 
-// Tests a whole table.
-fn read_table(bytes: &[u8]) -> Result<RangeTable, CodecFault>
-    ensures { RangesRead bytes.now result }
-{
-    if bytes.len() < 4 {
-        return Err(CodecFault::NoMeaning);
+impl<'a> RangeTable<'a> {
+    /// The table at the front of some bytes, if they mean anything in format 2.
+    pub fn read(bytes: &'a [u8]) -> Result<RangeTable<'a>, CodecFault>
+        ensures { TableRead bytes.now result }
+    {
+        if bytes.len() < 4 || word_at(bytes, 0) != 2 {
+            return Err(CodecFault::NoMeaning);
+        }
+        let ranges = word_at(bytes, 2) as usize;
+        let (records, _) = bytes[4..].as_chunks::<6>();
+        let Some(records) = records.get(..ranges) else {
+            return Err(CodecFault::NoMeaning);
+        };
+        let Some(glyphs) = covered_count(records) else {
+            return Err(CodecFault::NoMeaning);
+        };
+        if glyphs == 0 || glyphs > 65535 {
+            return Err(CodecFault::NoMeaning);
+        }
+        Ok(RangeTable { records, glyphs })
     }
-    if word_at(bytes, 0) != 2 {
-        return Err(CodecFault::NoMeaning);
-    }
-    let ranges = word_at(bytes, 2) as usize;
-    if bytes.len() < 4 + 6 * ranges {
-        return Err(CodecFault::NoMeaning);
-    }
-    let Some(glyphs) = range_total(bytes, ranges) else {
-        return Err(CodecFault::NoMeaning);
-    };
-    if glyphs == 0 {
-        return Err(CodecFault::NoMeaning);
-    }
-    if glyphs > 65535 {
-        return Err(CodecFault::NoMeaning);
-    }
-    Ok(RangeTable { ranges, glyphs })
-}
 
-/// How many glyphs a format 2 table covers.
-pub fn range_count(bytes: &[u8]) -> Result<usize, CodecFault>
-    ensures { result ≡ counted (range_meaning bytes.now) }
-{
-    let table = read_table(bytes)?;
-    Ok(table.glyphs)
-}
+    /// How many glyphs it covers.
+    pub fn count(&self) -> usize
+        ensures { result ≡ length (covered self.now) }
+    {
+        self.glyphs
+    }
 
-/// Where a format 2 table ends.
-pub fn range_end(bytes: &[u8]) -> Result<usize, CodecFault>
-    ensures { result ≡ ended (range_meaning bytes.now) }
-{
-    let table = read_table(bytes)?;
-    Ok(4 + 6 * table.ranges)
-}
+    /// Where it ends.
+    pub fn end(&self) -> usize
+        ensures { result ≡ 4 + 6 * length self.now }
+    {
+        4 + 6 * self.records.len()
+    }
 
-// The n-th glyph that ranges in order cover.
-fn nth_in_ranges(bytes: &[u8], ranges: usize, n: usize) -> Option<u16>
-    requires { (4 + 6 * ranges ≤ length bytes.now) × (in_order (ranges_at bytes.now ranges) ≡ true) }
-    ensures { result ≡ placed (covered (ranges_at bytes.now ranges)) n }
-{
-    for k in 0..ranges {
-        let range = range_at(bytes, k);
-        let on = n - range.index as usize;
-        if on <= (range.end - range.start) as usize {
-            return Some(range.start + on as u16);
+    /// The n-th glyph that it covers, from 0.
+    pub fn glyph(&self, n: usize) -> Result<u16, CodecFault>
+        ensures { result ≡ glyph_at (Some (meant self.now)) n }
+    {
+        for record in self.records {
+            let range = GlyphRange::from(*record);
+            let on = n - range.index as usize;
+            if on <= (range.end - range.start) as usize {
+                return Ok(range.start + on as u16);
+            }
+        }
+        Err(CodecFault::PastEnd)
+    }
+
+    /// Where a glyph stands among those that it covers, by binary search.
+    pub fn index_of(&self, glyph: u16) -> Option<usize>
+        ensures { result ≡ index_in glyph (covered self.now) }
+    {
+        let side = |record: &[u8; 6]| {
+            let range = GlyphRange::from(*record);
+            if range.end < glyph {
+                Ordering::Less
+            } else if glyph < range.start {
+                Ordering::Greater
+            } else {
+                Ordering::Equal
+            }
+        };
+        match self.records.binary_search_by(side) {
+            Ok(place) => {
+                let range = GlyphRange::from(self.records[place]);
+                Some(range.index as usize + (glyph - range.start) as usize)
+            }
+            Err(_) => None,
         }
     }
-    None
-}
 
-/// The n-th glyph of a format 2 table.
-pub fn range_glyph(bytes: &[u8], n: usize) -> Result<u16, CodecFault>
-    ensures { result ≡ glyph_at (range_meaning bytes.now) n }
-{
-    let table = read_table(bytes)?;
-    match nth_in_ranges(bytes, table.ranges, n) {
-        Some(glyph) => Ok(glyph),
-        None => Err(CodecFault::PastEnd),
-    }
-}
-
-// Where a glyph stands among those that ranges in order cover, by binary search.
-fn index_in_ranges(bytes: &[u8], ranges: usize, glyph: u16) -> Option<usize>
-    requires { (4 + 6 * ranges ≤ length bytes.now) × (in_order (ranges_at bytes.now ranges) ≡ true) }
-    ensures { result ≡ index_in glyph (covered (ranges_at bytes.now ranges)) }
-{
-    let mut low = 0;
-    let mut high = ranges;
-    while low < high {
-        let mid = low + (high - low) / 2;
-        let range = range_at(bytes, mid);
-        if range.end < glyph {
-            low = mid + 1;
-        } else if glyph < range.start {
-            high = mid;
-        } else {
-            return Some(range.index as usize + (glyph - range.start) as usize);
+    /// Copies all glyphs that it covers to the front of a slice, and tells how many they are.
+    pub fn copy_to(&self, out: &mut [u16]) -> Result<usize, CodecFault>
+        ensures { (result, out.new) ≡ copied (Some (meant self.now)) out.old }
+    {
+        if self.glyphs > out.len() {
+            return Err(CodecFault::NoSpace);
         }
-    }
-    None
-}
-
-/// Where a glyph stands in a format 2 table.
-pub fn range_index(bytes: &[u8], glyph: u16) -> Result<Option<usize>, CodecFault>
-    ensures { result ≡ indexed (range_meaning bytes.now) glyph }
-{
-    let table = read_table(bytes)?;
-    Ok(index_in_ranges(bytes, table.ranges, glyph))
-}
-
-// Copies the glyphs of a range to the place that its index tells.
-fn copy_range(range: GlyphRange, out: &mut [u16])
-    requires { (range.start ≤ range.end) × (range.index + (range.end + 1 - range.start) ≤ length out.old) }
-    ensures { out.new ≡ take range.index out.old ++ (covers range ++ drop (range.index + length (covers range)) out.old) }
-{
-    let at = range.index as usize;
-    let count = range.end as usize + 1 - range.start as usize;
-    for j in 0..count {
-        out[at + j] = range.start + j as u16;
+        for record in self.records {
+            GlyphRange::from(*record).copy_to(out);
+        }
+        Ok(self.glyphs)
     }
 }
 
-// Copies the glyphs of ranges in order to the front of a slice.
-fn copy_ranges(bytes: &[u8], ranges: usize, out: &mut [u16])
-    requires fits { 4 + 6 * ranges ≤ length bytes.now }
-    requires order { in_order (ranges_at bytes.now ranges) ≡ true }
-    requires room { length (covered (ranges_at bytes.now ranges)) ≤ length out.old }
-    ensures { out.new ≡ covered (ranges_at bytes.now ranges) ++ drop (length (covered (ranges_at bytes.now ranges))) out.old }
+// Whether a glyph is the next one behind another.
+fn follows(glyph: &u16, next: &u16) -> bool
+    ensures { result ≡ (next.now == suc glyph.now) }
 {
-    for k in 0..ranges {
-        copy_range(range_at(bytes, k), out);
-    }
-}
-
-/// Copies all glyphs of a format 2 table to the front of a slice.
-pub fn ranges_into(bytes: &[u8], out: &mut [u16]) -> Result<usize, CodecFault>
-    ensures { (result, out.new) ≡ copied (range_meaning bytes.now) out.old }
-{
-    let table = read_table(bytes)?;
-    if table.glyphs > out.len() {
-        return Err(CodecFault::NoSpace);
-    }
-    copy_ranges(bytes, table.ranges, out);
-    Ok(table.glyphs)
+    *glyph as usize + 1 == *next as usize
 }
 
 /// How many unbroken runs a glyph list has; none of what is no glyph list.
 pub fn run_count(glyphs: &[u16]) -> Option<usize>
     ensures { RunsCounted glyphs.now result }
 {
-    if glyphs.len() == 0 {
-        return None;
+    if is_glyph_list(glyphs) {
+        Some(glyphs.chunk_by(follows).count())
+    } else {
+        None
     }
-    if glyphs.len() > 65535 {
-        return None;
-    }
-    let mut count: usize = 1;
-    let mut last = glyphs[0];
-    for i in 1..glyphs.len() {
-        let glyph = glyphs[i];
-        if glyph <= last {
-            return None;
-        }
-        if glyph - last > 1 {
-            count += 1;
-        }
-        last = glyph;
-    }
-    Some(count)
 }
 
 // Writes a range record behind k others.
 fn put_range(out: &mut [u8], k: usize, range: GlyphRange)
     requires { 10 + 6 * k ≤ length out.old }
-    ensures { out.new ≡ put16 (put16 (put16 out.old (4 + 6 * k) range.start) (6 + 6 * k) range.end) (8 + 6 * k) range.index }
+    ensures { out.new ≡ take (4 + 6 * k) out.old ++ (record_bytes range ++ drop (10 + 6 * k) out.old) }
 {
-    put_word(out, 4 + 6 * k, range.start);
-    put_word(out, 6 + 6 * k, range.end);
-    put_word(out, 8 + 6 * k, range.index);
+    let at = 4 + 6 * k;
+    out[at..at + 6].copy_from_slice(&<[u8; 6]>::from(range));
 }
 
 /// Writes a glyph list in format 2, a range for each unbroken run, to the front of a slice that is long enough.
@@ -234,25 +227,14 @@ pub(crate) fn write_ranges(glyphs: &[u16], ranges: usize, out: &mut [u8])
 {
     put_word(out, 0, 2);
     put_word(out, 2, ranges as u16);
-    let mut done: usize = 0;
-    let mut range = GlyphRange {
-        start: glyphs[0],
-        end: glyphs[0],
-        index: 0,
-    };
-    for i in 1..glyphs.len() {
-        let glyph = glyphs[i];
-        if glyph - range.end > 1 {
-            put_range(out, done, range);
-            done += 1;
-            range = GlyphRange {
-                start: glyph,
-                end: glyph,
-                index: i as u16,
-            };
-        } else {
-            range.end = glyph;
-        }
+    let mut index: usize = 0;
+    for (done, run) in glyphs.chunk_by(follows).enumerate() {
+        let range = GlyphRange {
+            start: run[0],
+            end: run[run.len() - 1],
+            index: index as u16,
+        };
+        put_range(out, done, range);
+        index += run.len();
     }
-    put_range(out, done, range);
 }

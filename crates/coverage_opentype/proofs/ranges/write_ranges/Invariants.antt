@@ -1,5 +1,5 @@
-use Rattle.coverage_opentype.specs.Rendering.{WrittenTo}
+use Rattle.coverage_opentype.proofs.Writing.{WrittenTo}
 use Rattle.coverage_opentype.proofs.ranges.write_ranges.Given as goal
 
-abbrev pub invariant-loop-i : goal.invariant-loop-i
-invariant-loop-i l = WrittenTo l.glyphs l.initial.out l.i l.done l.range l.out
+abbrev pub invariant-loop-done : goal.invariant-loop-done
+invariant-loop-done l = WrittenTo l.glyphs l.fn.out l.index l.done-iterator.count l.done-iterator.iter.rest.now l.out

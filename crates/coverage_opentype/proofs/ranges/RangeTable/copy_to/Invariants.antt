@@ -1,0 +1,6 @@
+use Rattle.std.proofs.Common.{◌≡◌, ◌++◌, length, take, drop}
+use Rattle.coverage_opentype.specs.Format2.{covered}
+use Rattle.coverage_opentype.proofs.ranges.RangeTable.copy_to.Given as goal
+
+abbrev pub invariant-loop-record : goal.invariant-loop-record
+invariant-loop-record l = l.out ≡ covered (take l.record-index l.self) ++ drop (length (covered (take l.record-index l.self))) l.initial.out
