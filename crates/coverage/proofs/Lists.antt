@@ -1,7 +1,7 @@
 -- What is known of glyph lists: rising order by places, their parts, and where a glyph stands.
-use Rattle.std.proofs.Common.{◌≡◌, ℕ, zero, suc, Bool, map, ◌+◌, ◌<◌, ◌≤◌, true, false, ◌&&◌, ltb, leb, ◌≢◌, List, [], ◌∷◌, ◌++◌, length, get_or, drop, Some, None, Ok, Err, Result, sym, refl, ap, ◌∙◌, inl, inr, arith, length-append}
-use Rattle.std.proofs.lemmas.List.{at_drop_more, at_drop_all, get_or-map, length-map}
-use Rattle.std.proofs.lemmas.Bool.{and_parts, and_from, ltb-true, leb-true, lt-ltb, le-ltb, le-leb, eq-eqb, ne_eqb, cases_Bool}
+use Rattle.std.proofs.Common.{◌≡◌, ℕ, zero, suc, Bool, map, ◌+◌, ◌<◌, ◌≤◌, true, false, ◌&&◌, ltb, leb, ◌≢◌, List, [], ◌∷◌, ◌++◌, length, get_or, Some, None, Ok, Err, Result, sym, refl, ap, ◌∙◌, inl, inr, arith, length-append}
+use Rattle.std.proofs.lemmas.List.{get_or-map, length-map}
+use Rattle.std.proofs.lemmas.Bool.{and_parts, and_from, ltb-true, leb-true, lt-ltb, le-leb, eq-eqb, ne_eqb, cases_Bool}
 use Rattle.std.proofs.lemmas.List.Sorted.{searchable_from_sorted}
 use Rattle.std.proofs.Math.Bool.{and-true}
 use Rattle.std.proofs.lemmas.Cmp.{nat_cmp_total}
@@ -39,27 +39,6 @@ no_list gs h = elim (cases_Bool (is_glyph_list_of gs)) [ inl t ↦ absurd (h (li
 pub list_by_rise : (gs : List ℕ) → 0 < length gs → length gs ≤ 65535 → is_glyph_list_of gs ≡ (rises gs && small gs)
 unfolding is_glyph_list_of
 list_by_rise gs a b = ap (λ t. t && (leb (length gs) 65535 && (rises gs && small gs))) (lt-ltb _ _ a) ∙ ap (λ t. t && (rises gs && small gs)) (le-leb _ _ b)
-
--- the walk over a list
-pub walk_first : (gs : List ℕ) (x : ℕ) → 0 < length gs → x ≡ get_or gs 0 0 → x < 65536 → (rises gs && small gs) ≡ (above x (drop 1 gs) && small (drop 1 gs))
-walk_first [] x h e s = absurd (omega arith)
-walk_first (y ∷ ys) x h e s = ap (λ t. above y ys && (t && small ys)) (lt-ltb y 65536 (omega arith)) ∙ ap (λ t. above t ys && small ys) (sym e)
-
-pub walk_on : (gs : List ℕ) (i x y : ℕ) → i < length gs → y ≡ get_or gs i 0 → x < y → y < 65536 → (above x (drop i gs) && small (drop i gs)) ≡ (above y (drop (i + 1) gs) && small (drop (i + 1) gs))
-walk_on gs i x y lt e up s =
-    at_drop_more (λ (t : List ℕ). above x t && small t) gs i 0 lt
-    ∙ ap (λ z. (ltb x z && above z (drop (i + 1) gs)) && (ltb z 65536 && small (drop (i + 1) gs))) (sym e)
-    ∙ ap (λ t. (t && above y (drop (i + 1) gs)) && (ltb y 65536 && small (drop (i + 1) gs))) (lt-ltb x y up)
-    ∙ ap (λ t. above y (drop (i + 1) gs) && (t && small (drop (i + 1) gs))) (lt-ltb y 65536 s)
-
-pub walk_stop : (gs : List ℕ) (i x y : ℕ) → i < length gs → y ≡ get_or gs i 0 → y ≤ x → (above x (drop i gs) && small (drop i gs)) ≡ false
-walk_stop gs i x y lt e down =
-    at_drop_more (λ (t : List ℕ). above x t && small t) gs i 0 lt
-    ∙ ap (λ z. (ltb x z && above z (drop (i + 1) gs)) && (ltb z 65536 && small (drop (i + 1) gs))) (sym e)
-    ∙ ap (λ t. (t && above y (drop (i + 1) gs)) && (ltb y 65536 && small (drop (i + 1) gs))) (le-ltb x y down)
-
-pub walk_end : (gs : List ℕ) (i x : ℕ) → length gs ≤ i → (above x (drop i gs) && small (drop i gs)) ≡ true
-walk_end gs i x le = at_drop_all (λ (t : List ℕ). above x t && small t) gs i le
 
 -- rising order by places
 above_all : (x : ℕ) (ys : List ℕ) → above x ys ≡ true → (k : ℕ) → k < length ys → x < get_or ys k 0
