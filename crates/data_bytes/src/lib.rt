@@ -35,6 +35,7 @@ fn range_at(bytes: &[u8], at: usize, width: usize) -> Option<Range<usize>>
 }
 
 /// A number that tables store big-endian, in a fixed number of bytes.
+// How large its number can be is known of a value alone, so each call that takes one says it, under `fits`.
 pub trait Scalar: Copy {
     // How many bytes it takes.
     ghost width: { ℕ };

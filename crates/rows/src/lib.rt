@@ -125,6 +125,7 @@ fn search<T: Row>(rows: &[T], key: RowKey) -> Result<usize, usize>
 }
 
 /// The row with the key among the first `used` rows, or none. Where `used` exceeds the slice, all its rows are used.
+// Beside the method, since a view needs a slice that may be written, and this serves who may only read.
 pub fn find<T: Row>(rows: &[T], used: usize, key: RowKey) -> Option<T>
     ensures found { Rising T.Row.key (take used rows.now) → result ≡ row_of T.Row.key key (take used rows.now) }
     ensures answered { Answered T.Row.key key (take used rows.now) result }
@@ -135,7 +136,8 @@ pub fn find<T: Row>(rows: &[T], used: usize, key: RowKey) -> Option<T>
 }
 
 impl<'a, T: Row> KeyedRows<'a, T> {
-    /// The first `used` rows are in use. Where `used` exceeds the slice, all its rows are.
+    /// The first `used` rows are in use. Where `used` exceeds the slice, all its rows are. Made over a whole slice that
+    /// was lent, or over a field, the view tells the lender what was written; over a part of a slice see `put` and `remove`.
     pub fn new(rows: &'a mut [T], used: usize) -> KeyedRows<'a, T>
         ensures rows { lent result ≡ rows.old }
         ensures used { result.used ≡ min used (length rows.old) }
@@ -143,14 +145,6 @@ impl<'a, T: Row> KeyedRows<'a, T> {
     {
         let used = used.min(rows.len());
         KeyedRows { rows, used }
-    }
-
-    /// How many rows are in use.
-    pub fn len(&self) -> usize
-        ensures used { result ≡ self.now.used }
-        ensures within { result ≤ length (lent self.now) }
-    {
-        self.used
     }
 
     /// The row with the key among those in use, or none.
@@ -226,6 +220,34 @@ impl<'a, T: Row> KeyedRows<'a, T> {
         self.used -= 1;
         self.rows[self.used] = T::default();
     }
+}
+
+/// Puts the row among the first `used` rows, as `KeyedRows::put` does, and answers how many rows are used then.
+/// Where `used` exceeds the slice, all its rows are used.
+// For a part of a slice: of that a view made by the caller would not tell what was written.
+pub fn put<T: Row>(rows: &mut [T], used: usize, row: T) -> Option<usize>
+    ensures laid { Rising T.Row.key (take used rows.old) → Laid (with_row T.Row.key row (take used rows.old)) rows.old rows.new result }
+    ensures one { OnePut T.Row.key row used rows.old rows.new result }
+    ensures length { length rows.new ≡ length rows.old }
+    ensures behind { drop (used + 1) rows.new ≡ drop (used + 1) rows.old }
+{
+    let mut keyed = KeyedRows::new(rows, used);
+    keyed.put(row)?;
+    Some(keyed.len())
+}
+
+/// Takes the row with the key out of the first `used` rows, as `KeyedRows::remove` does, and answers how many rows are
+/// used then. Where `used` exceeds the slice, all its rows are used.
+pub fn remove<T: Row>(rows: &mut [T], used: usize, key: RowKey) -> usize
+    ensures rows { Rising T.Row.key (take used rows.old) → rows.new ≡ without_row T.Row.key key (take used rows.old) ++ (replicate (length (take used rows.old) - length (without_row T.Row.key key (take used rows.old))) T.Row.zero ++ drop used rows.old) }
+    ensures count { Rising T.Row.key (take used rows.old) → result ≡ length (without_row T.Row.key key (take used rows.old)) }
+    ensures one { OneLess T.Row.key key T.Row.zero (take used rows.old) (drop used rows.old) rows.new result }
+    ensures length { length rows.new ≡ length rows.old }
+    ensures behind { drop used rows.new ≡ drop used rows.old }
+{
+    let mut keyed = KeyedRows::new(rows, used);
+    keyed.remove(key);
+    keyed.len()
 }
 
 /// The order of keys is strict and total: by list, and within a list by place.

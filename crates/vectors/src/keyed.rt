@@ -1,5 +1,5 @@
 // Keyed rows: a walk of puts and removes on four rows of each kind, with every row and many look-ups checked at each step.
-use rows::{KeyedRows, LinkRow, LinkWidth, ParentRow, Row, RowKey};
+use rows::{LinkRow, LinkWidth, ParentRow, Row, RowKey, find, put, remove};
 
 // A row of any kind: its list, its place there, and what it holds.
 #[derive(Clone, Copy)]
@@ -245,9 +245,9 @@ impl Sample for ParentRow {
     }
 }
 
-fn finds<T: Sample>(keyed: &KeyedRows<T>, after: &[Entry]) -> bool {
+fn finds<T: Sample>(rows: &[T], used: usize, after: &[Entry]) -> bool {
     ASKED.iter().all(|key| {
-        let found = keyed.find(*key);
+        let found = find(rows, used, *key);
         match after.iter().find(|entry| entry.key() == *key) {
             Some(entry) => found == Some(T::made(*entry)),
             None => found.is_none(),
@@ -266,19 +266,18 @@ fn stand<T: Sample>(rows: &[T], after: &[Entry]) -> bool {
     is_used && spare.iter().all(|row| *row == T::default())
 }
 
-fn taken<T: Sample>(keyed: &mut KeyedRows<T>, step: &Step) -> Option<usize> {
+fn taken<T: Sample>(rows: &mut [T], used: usize, step: &Step) -> Option<usize> {
     match step.act {
-        Act::Put => keyed.put(T::made(step.row))?,
-        Act::Remove => keyed.remove(step.row.key()),
+        Act::Put => put(rows, used, T::made(step.row)),
+        Act::Remove => Some(remove(rows, used, step.row.key())),
     }
-    Some(keyed.len())
 }
 
 // The name of the first step that goes wrong. Where all rows are in use, `beyond` is told in place of their number.
 fn walk<T: Sample>(rows: &mut [T], beyond: usize) -> Option<&'static str> {
     let mut used = 0;
     for step in STEPS.iter() {
-        let answer = taken(&mut KeyedRows::new(rows, used), step);
+        let answer = taken(rows, used, step);
         if answer != step.answer || !stand(rows, step.after) {
             return Some(step.name);
         }
@@ -286,7 +285,7 @@ fn walk<T: Sample>(rows: &mut [T], beyond: usize) -> Option<&'static str> {
         if used == rows.len() {
             used = beyond;
         }
-        if !finds(&KeyedRows::new(rows, used), step.after) {
+        if !finds(rows, used, step.after) {
             return Some(step.name);
         }
     }

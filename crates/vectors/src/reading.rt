@@ -450,6 +450,7 @@ pub fn means<C: CoverageCodec>(
 
 // Cut off before its end a table means nothing; bytes behind its end do not matter.
 fn reads<C: CoverageCodec>(codec: &C, case: &Covering, out: &mut [u16]) -> bool {
+    // Over lengths, which are no elements.
     for n in 0..=case.bytes.len() {
         let front = &case.bytes[..n];
         let is_read = if n < case.end {
@@ -466,6 +467,7 @@ fn reads<C: CoverageCodec>(codec: &C, case: &Covering, out: &mut [u16]) -> bool 
 
 // Nor does any front of bytes that mean nothing mean something.
 fn reads_nothing<C: CoverageCodec>(codec: &C, bytes: &[u8], out: &mut [u16]) -> bool {
+    // Over lengths, which are no elements.
     for n in 0..=bytes.len() {
         if !means_nothing(codec, &bytes[..n], out) {
             return false;

@@ -207,6 +207,7 @@ fn scalars_stand_in_bytes(rt: HostRuntime) {
     for spot in LONGS.iter() {
         assert!(rt; spot.both_ways(), "{}", spot.at);
     }
+    // Over lengths, which are no elements.
     for count in 0..=START.len() {
         assert!(rt;
             in_fewer::<u16>(&START[..count], 2) && in_fewer::<u32>(&START[..count], 4),
