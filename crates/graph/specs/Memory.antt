@@ -2,6 +2,7 @@
 use Rattle.std.specs.Prelude.{◌≡◌, ℕ, suc, ◌+◌, ◌<◌, ◌≤◌, false, cond, List, [], ◌∷◌, ◌++◌, map, length, get_or, take, drop, ◌==◌, slice_index_or}
 use Rattle.rows.specs.declared.LinkRow.{LinkRow}
 use Rattle.rows.specs.declared.LinkWidth.TheVariants.{Zero, Two, Four}
+use Rattle.rows.specs.Kinds.{zero_link}
 use Rattle.graph.specs.declared.VertexRow.{VertexRow}
 use Rattle.graph.specs.declared.GraphView.{GraphView}
 use Rattle.model.specs.Tables.{Slot, Table}
@@ -39,6 +40,10 @@ table_rows v t = map (slot_row v) t.slots ++ virtual_rows v 0 t.virtuals
 abbrev pub flat : ℕ → List Table → List LinkRow
 flat v [] = []
 flat v (t ∷ ts) = table_rows v t ++ flat (suc v) ts
+
+-- each link row is owned by one of the first n vertices
+abbrev pub Owned : List LinkRow → ℕ → Type 0
+Owned rows n = (i : ℕ) → i < length rows → (slice_index_or rows i zero_link).owner < n
 
 -- a vertex's part of the pool, and its link rows
 abbrev pub part_of : Memory → ℕ → List ℕ

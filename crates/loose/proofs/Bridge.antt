@@ -20,10 +20,10 @@ use Rattle.model.proofs.LoadSame.{Up}
 use Rattle.model.proofs.LoadBack.{at_position}
 use Rattle.model.proofs.LoadShapes.{strict}
 use Rattle.graph.specs.declared.VertexRow.{VertexRow}
-use Rattle.graph.specs.Memory.{Memory, behind_all, vertex_at, table_rows, flat, Bears, Tight, bares}
+use Rattle.graph.specs.Memory.{Memory, behind_all, vertex_at, table_rows, flat, Bears, Tight, bares, Owned}
 use Rattle.graph.specs.Filling.{size_of, filled_rows, filled_bytes, ordered, block_of, blocks_from, table_for}
 use Rattle.graph.proofs.Laid.{rows_along}
-use Rattle.loose.specs.Faults.{Faultless, FirstFault, Owned}
+use Rattle.loose.specs.Faults.{Faultless, FirstFault}
 use Rattle.loose.proofs.Order.{ordered_shuffled, ordered_rise}
 use Rattle.loose.proofs.Scan.{free_all, stops_first}
 use Rattle.loose.proofs.Blocks.{place, block_is, block_from}
@@ -114,7 +114,7 @@ module _ (s : Stream) (fine : Uncounted s) (vs : List VertexRow) (filled : bares
   count : length vs ≡ length s.tables
   count = length_vertices vs s.tables filled
 
-  pub rows_owned : Owned vs (blocks_from 0 s.tables)
+  pub rows_owned : Owned (blocks_from 0 s.tables) (length vs)
   rows_owned i h = let n = count in let k = All-get_or (λ (r : LinkRow). r.owner < 0 + length s.tables) (blocks_from 0 s.tables) i zero_link h (blocks_owned 0 s.tables) in omega arith
 
   sized_from : (v : ℕ) (ts : List StreamTable) → ((k : ℕ) (t : StreamTable) → nth ts k ≡ Some t → ((vertex_at vs (v + k)).size ≡ size_of t) × (size_of t ≤ behind_all)) → Sized vs s count v ts

@@ -37,7 +37,3 @@ pub record FirstFault (vs : List VertexRow) (rows : List LinkRow) (v : ℕ) : Ty
   pub vertex : (row_at rows at).owner ≡ v
   pub faulty : Faulty vs rows at
   pub lower : (k : ℕ) → k < at → Faulty vs rows k → ⊥
-
--- each row has a vertex
-abbrev pub Owned : List VertexRow → List LinkRow → Type 0
-Owned vs rows = (i : ℕ) → i < length rows → (row_at rows i).owner < length vs

@@ -2,7 +2,8 @@
 #![tactic(auto)]
 
 ghost use Rattle.std.specs.Prelude.{◌≡◌, ◌<◌, ◌≤◌, length, Decides, MatchOption};
-ghost use Rattle.loose.specs.Faults.{Twins, Faulty, Faultless, FirstFault, Owned};
+ghost use Rattle.graph.specs.Memory.{Owned};
+ghost use Rattle.loose.specs.Faults.{Twins, Faulty, Faultless, FirstFault};
 
 use graph::VertexRow;
 use rows::LinkRow;
@@ -21,7 +22,7 @@ fn are_twins(before: Option<LinkRow>, row: LinkRow) -> bool
 /// Whether a link leads to no vertex, passes the end of its owner's table, or stands where the one in front does.
 fn is_faulty(vertices: &[VertexRow], links: &[LinkRow], index: usize) -> bool
     requires there { index < length links.now }
-    requires owned { Owned vertices.now links.now }
+    requires owned { Owned links.now (length vertices.now) }
     ensures { Decides result (Faulty vertices.now links.now index) }
 {
     let row = links[index];
@@ -34,7 +35,7 @@ fn is_faulty(vertices: &[VertexRow], links: &[LinkRow], index: usize) -> bool
 
 /// The vertex of the first faulty link. Links stand by owner, so it is the lowest that has one.
 pub fn first_loose(vertices: &[VertexRow], links: &[LinkRow]) -> Option<u32>
-    requires owned { Owned vertices.now links.now }
+    requires owned { Owned links.now (length vertices.now) }
     ensures { MatchOption result (Faultless vertices.now links.now) (λ v. FirstFault vertices.now links.now v) }
 {
     for (index, row) in links.iter().enumerate() {
