@@ -1,7 +1,7 @@
 // Load: graph words into lent tables, or a refusal that leaves them zero.
 #![tactic(auto)]
 
-ghost use Rattle.std.specs.Prelude.{◌≡◌, ℕ, ◌+◌, ◌*◌, ◌^◌, ◌<◌, ◌≤◌, length, replicate, slice_index};
+ghost use Rattle.std.specs.Prelude.{◌≡◌, ℕ, ◌<◌, ◌≤◌, length, replicate, slice_index};
 ghost use Rattle.graph.specs.Memory.{zero_vertex, vertex_at};
 ghost use Rattle.graph.specs.Holding.{room};
 ghost use Rattle.rows.specs.Kinds.{zero_link, zero_parent};

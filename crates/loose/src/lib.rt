@@ -1,7 +1,7 @@
 // The test for loose links: the first vertex with a link that leads nowhere, passes the end of its table, or stands where another does.
 #![tactic(auto)]
 
-ghost use Rattle.std.specs.Prelude.{◌≡◌, ◌<◌, ◌≤◌, length, Decides, MatchOption};
+ghost use Rattle.std.specs.Prelude.{◌<◌, ◌↔◌, length, IsTrue, MatchOption};
 ghost use Rattle.graph.specs.Memory.{Owned};
 ghost use Rattle.loose.specs.Faults.{Twins, Faulty, Faultless, FirstFault};
 
@@ -10,7 +10,7 @@ use rows::LinkRow;
 
 /// Whether a link and the one in front of it are real ones at one position of one table.
 fn are_twins(before: Option<LinkRow>, row: LinkRow) -> bool
-    ensures { Decides result (Twins before row) }
+    ensures { IsTrue result ↔ (Twins before row) }
 {
     let Some(other) = before else {
         return false;
@@ -23,7 +23,7 @@ fn are_twins(before: Option<LinkRow>, row: LinkRow) -> bool
 fn is_faulty(vertices: &[VertexRow], links: &[LinkRow], index: usize) -> bool
     requires there { index < length links.now }
     requires owned { Owned links.now (length vertices.now) }
-    ensures { Decides result (Faulty vertices.now links.now index) }
+    ensures { IsTrue result ↔ (Faulty vertices.now links.now index) }
 {
     let row = links[index];
     let bytes = usize::from(row.width);
