@@ -15,6 +15,7 @@ pub fn a_divided_sets_vertex_goes_to_one_place()
 
 /// A worked case: a set of which the original keeps nothing, cut twice; its vertex goes to the last piece. Beside it the same
 /// behind extension tables, and a set whose head stays.
+#[tactic(auto, unfolding(crate::specs::Cutting::run_size))]
 pub fn a_set_without_a_head_goes_last()
     ensures { WithoutAHead }
 {}

@@ -15,11 +15,13 @@ use coverage_list::ListCodec;
 use coverage_opentype::opentype::OpenTypeCodec;
 
 /// The worked cases on sample S: cuts, sizes, bills and refusals at five ceilings, two shaping answers, and a set of three at 18.
+#[tactic(auto, unfolding(crate::specs::Cutting::run_size))]
 pub fn sample_s_stands()
     ensures { Worked }
 {}
 
 /// The second worked case under both codecs: two lookups, extension tables, a mark filtering set, a set cut twice.
+#[tactic(auto, unfolding(crate::specs::Cutting::run_size, crate::specs::Writing::written, coverage::specs::Glyphs::is_glyph_list_of, coverage_list::specs::Format1::is_array, coverage_list::specs::Format1::array_meaning, coverage_opentype::specs::Format2::in_order, coverage_opentype::specs::Format2::is_ranges, coverage_opentype::specs::Format2::range_meaning, coverage_opentype::specs::OpenType::open_type_meaning))]
 pub fn second_sample_stands()
     ensures open_type { WorkedT open_type_bytes open_type_meaning open_type_before }
     ensures list { WorkedT array_bytes array_meaning list_before }
