@@ -1,7 +1,8 @@
 -- Shaping gives the first rule with whose glyphs the string begins.
-use Rattle.std.proofs.Common.{◌≡◌, ℕ, ◌<◌, true, false, eqb, ltb, List, [], ◌∷◌, ◌++◌, length, drop, Ok, sym, refl, ap, ◌∙◌, ⊎_elim, arith, length-append}
+use Rattle.std.proofs.Common.{◌≡◌, ℕ, ◌<◌, true, false, eqb, ltb, List, [], ◌∷◌, ◌++◌, length, Ok, sym, refl, ap, ◌∙◌, ⊎_elim, arith, length-append}
 use Rattle.std.specs.List.{AllByRecursion}
 use Rattle.std.proofs.lemmas.Bool.{both_ways, cases_Bool, eq-eqb, eqb-true, lt-ltb, and_parts, and_from, cond-true, cond-false}
+use Rattle.std.proofs.lemmas.List.{drop_at}
 use Rattle.model.specs.Rules.{Rule, stands, unshaped, first_rule, shape_by}
 use Rattle.model.specs.ShapingLaws.{Begins, FirstRuleShapes}
 
@@ -31,14 +32,10 @@ none : (rs : List Rule) (s : List ℕ) → AllByRecursion (λ (q : Rule). Begins
 none [] s a = refl
 none (q ∷ rs) s a = cond-false (stands q.glyphs s) _ _ (passes s q a.0) ∙ none rs s a.1
 
-behind : (before s : List ℕ) → drop (length before) (before ++ s) ≡ s
-behind [] s = refl
-behind (x ∷ before) s = behind before s
-
 place : (rs : List Rule) (before s : List ℕ) → 0 < length s → shape_by rs (before ++ s) (length before) ≡ Ok (first_rule rs s)
 place rs before s some =
     let n = length-append before s in
-    cond-true (ltb (length before) (length (before ++ s))) _ _ (lt-ltb (length before) (length (before ++ s)) (omega arith)) ∙ ap (λ (t : List ℕ). Ok (first_rule rs t)) (behind before s)
+    cond-true (ltb (length before) (length (before ++ s))) _ _ (lt-ltb (length before) (length (before ++ s)) (omega arith)) ∙ ap (λ (t : List ℕ). Ok (first_rule rs t)) (drop_at before s (length before) refl)
 
 pub first_rule_shapes : FirstRuleShapes
 first_rule_shapes =

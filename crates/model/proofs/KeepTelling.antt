@@ -5,6 +5,7 @@ use Rattle.std.specs.List.{flat_map, AllByRecursion}
 use Rattle.std.proofs.lemmas.List.{append-nil, map-append}
 use Rattle.std.proofs.ByRecursion.{All-append, All-weaker}
 use Rattle.std.proofs.lemmas.Bool.{eqb-true, cond_both}
+use Rattle.std.proofs.lemmas.Simd.{map-map}
 use Rattle.model.specs.Forest.{Ligature, LigatureSet, Subtable}
 use Rattle.model.specs.Cutting.{Entry, entries_from, sets_from, entries, parts}
 use Rattle.model.specs.Splitting.{Group, alone, with_first, join_group, groups, sets_of, new_sets, comes_here, pieces, after_pieces, extended, divided, after_divided, split_all}
@@ -147,13 +148,9 @@ module _ {X : Type 0} (f : ℕ → Ligature → X) where
       ∙ ap (λ u. subtable_tells s ++ u) (split_all_tells c wrapped wrote (after_divided wrapped fresh (parts c (entries s))) ss)
 
 -- told again in other words
-map_twice : {W X Y : Type 0} (h : X → Y) (k : W → X) (gs : List W) → map h (map k gs) ≡ map (λ (g : W). h (k g)) gs
-map_twice h k [] = refl
-map_twice h k (g ∷ gs) = ap (λ u. h (k g) ∷ u) (map_twice h k gs)
-
 pub tells_map : {X Y : Type 0} (h : X → Y) (f : ℕ → Ligature → X) (ts : List LigatureSet) → map h (flat_map (set_tells f) ts) ≡ flat_map (set_tells (λ a g. h (f a g))) ts
 tells_map h f [] = refl
 tells_map h f (t ∷ ts) =
     map-append h (set_tells f t) (flat_map (set_tells f) ts)
-    ∙ ap (λ u. u ++ map h (flat_map (set_tells f) ts)) (map_twice h (f t.first) t.ligatures)
+    ∙ ap (λ u. u ++ map h (flat_map (set_tells f) ts)) (map-map h (f t.first) t.ligatures)
     ∙ ap (λ u. set_tells (λ a g. h (f a g)) t ++ u) (tells_map h f ts)

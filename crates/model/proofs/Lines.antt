@@ -4,6 +4,7 @@ use Rattle.std.proofs.lemmas.List.{map-append}
 use Rattle.std.proofs.lemmas.Bool.{both_ways, cases_Bool, cond-true, cond-false}
 use Rattle.std.proofs.ByRecursion.{All-weaker}
 use Rattle.std.specs.List.{flat_map, AllByRecursion}
+use Rattle.std.proofs.lemmas.Option.{none-some}
 use Rattle.refusals.specs.declared.Refusal.{Refusal}
 use Rattle.refusals.specs.declared.Refusal.TheVariants.{OffsetOverflow, ShortBuffer, NoPlace}
 use Rattle.data_bytes.specs.Values.{value_bytes}
@@ -40,12 +41,9 @@ ceilings : {gs : List Page} {ls : List Lookup} → Matches gs ls → Ceilings gs
 ceilings no_pages = none
 ceilings (a_page m ms) = more m.under (ceilings ms)
 
-no_ceiling : {X : Type 0} (c : ℕ) → ◌≡◌ {A = Option ℕ} None (Some c) → X
-no_ceiling c e = let z : ◌≡◌ {A = ℕ} 0 1 = cc in absurd (omega arith)
-
 matches_book : (ls : List Lookup) → Matches (map page_of ls) ls
 matches_book [] = no_pages
-matches_book (l ∷ ls) = a_page (record { rules = refl; kind = refl; under = λ c e. no_ceiling c e; low = λ c e. no_ceiling c e }) (matches_book ls)
+matches_book (l ∷ ls) = a_page (record { rules = refl; kind = refl; under = λ c e. absurd (none-some c e); low = λ c e. absurd (none-some c e) }) (matches_book ls)
 
 -- the n-th page is the n-th lookup's
 data At : Option Page → Option Lookup → Type 0 where

@@ -2,7 +2,7 @@
 use Rattle.std.proofs.Common.{◌≡◌, ℕ, zero, suc, ◌+◌, ◌<◌, ◌≤◌, ◌⊎◌, List, [], ◌∷◌, ◌++◌, map, length, Some, None, sum_by, count_by, Option, sym, refl, ap, ◌∙◌, subst, inl, inr, ⊎_elim, arith}
 use Rattle.std.specs.List.{ContainsAt as Has, flat_map, AllByRecursion, range_with_len}
 use Rattle.std.proofs.lemmas.List.Sums.{sum_by-cons}
-use Rattle.std.proofs.ByRecursion.{has_append_left, has_append_right, all-has}
+use Rattle.std.proofs.ByRecursion.{has_append_left, has_append_right, all-has, has_append_cases}
 use Rattle.std.proofs.lemmas.Bool.{cases_eq, cases_lt}
 use Rattle.words.specs.Grammar.{StreamTable, Stream}
 use Rattle.words.proofs.Saying.{none_some}
@@ -128,18 +128,13 @@ has_joined f (z ∷ xs) x y h i =
     (λ j. has_append_right (f z) (flat_map f xs) y (has_joined f xs x y j i))
     (has_cases z xs x h)
 
-has_parts : {Y : Type 0} (us vs : List Y) (y : Y) → Has (us ++ vs) y → Has us y ⊎ Has vs y
-has_parts [] vs y i = inr i
-has_parts (u ∷ us) vs y i =
-    ⊎_elim (λ e. inl (subst (Has (u ∷ us)) e (has_first u us))) (λ j. ⊎_elim (λ k. inl (has_later u us y k)) (λ k. inr k) (has_parts us vs y j)) (has_cases u (us ++ vs) y i)
-
 joined_has : {X Y : Type 0} (f : X → List Y) (xs : List X) (y : Y) → Has (flat_map f xs) y → (x : X) × Has xs x × Has (f x) y
 joined_has f [] y h = absurd (has_none y h)
 joined_has f (x ∷ xs) y h =
     ⊎_elim
     (λ i. (x, has_first x xs, i))
     (λ i. let r = joined_has f xs y i in (r.0, has_later x xs r.0 r.1, r.2))
-    (has_parts (f x) (flat_map f xs) y h)
+    (has_append_cases (f x) (flat_map f xs) y h)
 
 pub has-map : {X Y : Type 0} (f : X → Y) (xs : List X) (x : X) → Has xs x → Has (map f xs) (f x)
 has-map f [] x h = absurd (has_none x h)
@@ -181,7 +176,7 @@ module _ (s : Stream) (rooted : AllByRecursion (λ r. r < length s.tables) s.roo
       ⊎_elim
       (λ i. (root v i, all-has (λ x. x < length s.tables) s.roots v rooted i))
       (λ i. let j = joined_has (λ u. next_of (nth s.tables u)) marks v i in from j.0 (all-has (Reached s) marks j.0 r j.1) j.2)
-      (has_parts s.roots (flat_map (λ u. next_of (nth s.tables u)) marks) v h)
+      (has_append_cases s.roots (flat_map (λ u. next_of (nth s.tables u)) marks) v h)
     where
       by : (u : ℕ) (o : Option StreamTable) → nth s.tables u ≡ o → Reached s u → Has (next_of o) v → Reached s v × (v < length s.tables)
       by u None e x k = absurd (has_none v k)

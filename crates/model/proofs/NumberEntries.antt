@@ -1,9 +1,10 @@
 -- The entries of a subtable come set by set, and so do the parts that they are cut into.
-use Rattle.std.proofs.Common.{◌≡◌, ℕ, suc, ◌+◌, ◌<◌, ◌≤◌, Bool, true, false, cond, ◌||◌, eqb, leb, ◌⊎◌, List, [], ◌∷◌, ◌++◌, length, sym, refl, ap, ◌∙◌, inl, inr, arith}
+use Rattle.std.proofs.Common.{◌≡◌, ℕ, suc, ◌+◌, ◌<◌, ◌≤◌, true, cond, ◌||◌, eqb, leb, ◌⊎◌, List, [], ◌∷◌, ◌++◌, length, sym, refl, ap, ◌∙◌, inl, inr, arith}
 use Rattle.std.specs.List.{flat_map, AllByRecursion}
 use Rattle.std.proofs.lemmas.List.{append_assoc}
 use Rattle.std.proofs.ByRecursion.{All-append, All-weaker}
-use Rattle.std.proofs.lemmas.Bool.{eq-eqb, ne_eqb, cond-true, cond-false, cond_both}
+use Rattle.std.proofs.lemmas.Bool.{eq-eqb, ne_eqb, cond-true, cond-false, cond_both, or_right}
+use Rattle.std.proofs.Math.Bool.{or_assoc}
 use Rattle.model.specs.Forest.{Ligature, LigatureSet}
 use Rattle.model.specs.Cutting.{Entry, entries_from, sets_from, run_size, parts_from, parts}
 use Rattle.model.specs.Splitting.{has, any_has}
@@ -160,17 +161,9 @@ sets_owned i (t ∷ ts) =
 abbrev pub SomeLigatures : LigatureSet → Type 0
 SomeLigatures t = 0 < length t.ligatures
 
-or_true : (x y : Bool) → y ≡ true → (x || y) ≡ true
-or_true true y e = refl
-or_true false y e = e
-
 pub has-append : (i : ℕ) (xs ys : List Entry) → has i (xs ++ ys) ≡ (has i xs || has i ys)
 has-append i [] ys = refl
-has-append i (x ∷ xs) ys = ap (λ b. eqb x.set i || b) (has-append i xs ys) ∙ or_assoc (eqb x.set i) (has i xs) (has i ys)
-  where
-    or_assoc : (a b c : Bool) → (a || (b || c)) ≡ ((a || b) || c)
-    or_assoc true b c = refl
-    or_assoc false b c = refl
+has-append i (x ∷ xs) ys = ap (λ b. eqb x.set i || b) (has-append i xs ys) ∙ sym (or_assoc (eqb x.set i) (has i xs) (has i ys))
 
 pub any_joined : (i : ℕ) (ps : List (List Entry)) → any_has i ps ≡ has i (flat_map itself ps)
 any_joined i [] = refl
@@ -186,7 +179,7 @@ all-present w pre i [] h = refl
 all-present w pre i (t ∷ ts) h =
     let mine = entries_from i 0 t t.ligatures in
     let rest = sets_from (suc i) ts in
-    let yes' : has i (pre ++ (mine ++ rest)) ≡ true = has-append i pre (mine ++ rest) ∙ or_true (has i pre) (has i (mine ++ rest)) (has_first i t t.ligatures rest h.0) in
+    let yes' : has i (pre ++ (mine ++ rest)) ≡ true = has-append i pre (mine ++ rest) ∙ or_right (has i pre) (has i (mine ++ rest)) (has_first i t t.ligatures rest h.0) in
     let a : cond (has i (pre ++ (mine ++ rest))) (w t.vertex) 0 ≡ w t.vertex = cond-true (has i (pre ++ (mine ++ rest))) (w t.vertex) 0 yes' in
     let b = all-present w (pre ++ mine) (suc i) ts h.1 in
     let c : tally_sets (λ k u. cond (has k (pre ++ (mine ++ rest))) (w u.vertex) 0) (suc i) ts ≡ tally_sets (λ k u. cond (has k ((pre ++ mine) ++ rest)) (w u.vertex) 0) (suc i) ts

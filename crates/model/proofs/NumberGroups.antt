@@ -2,12 +2,12 @@
 use Rattle.std.proofs.Common.{◌≡◌, ℕ, ◌+◌, ◌<◌, true, false, cond, ◌||◌, eqb, List, [], ◌∷◌, sym, refl, ap, ◌∙◌, ⊎_elim, arith}
 use Rattle.std.specs.List.{AllByRecursion}
 use Rattle.std.proofs.lemmas.Bool.{cases_Bool, cases_eq, eqb-true, eq-eqb, ne_eqb, cond-true, cond-false, cond_both, or_from}
+use Rattle.std.proofs.Math.Bool.{or_self_left}
 use Rattle.model.specs.Forest.{LigatureSet}
 use Rattle.model.specs.Cutting.{Entry}
 use Rattle.model.specs.Splitting.{Group, alone, with_first, join_group, groups, has}
 use Rattle.model.proofs.NumberSums.{tally}
 use Rattle.model.proofs.NumberEntries.{Run, tally_sets, sets_same, sets_plus, sets_none, Owned, opening, opens_here, opens_not}
-use Rattle.model.proofs.PartsCover.{or_again}
 
 -- the groups begin with the set i
 abbrev Leads : ℕ → List Group → Type 0
@@ -81,7 +81,7 @@ module _ (ts : List LigatureSet) (h : ℕ → ℕ → ℕ) where
       ⊎_elim
       (λ (s : (e.set ≡ f.set) × (0 < f.place)).
       let a = join_same h e f.set (groups (f ∷ fs)) l s.0 in
-      let b = sets_same (present (e ∷ f ∷ fs)) (present (f ∷ fs)) (λ k t. ap (λ b. cond b (h k t.vertex) 0) (ap (λ x. eqb x k || has k (f ∷ fs)) s.0 ∙ or_again (eqb f.set k) (has k fs))) 0 ts in
+      let b = sets_same (present (e ∷ f ∷ fs)) (present (f ∷ fs)) (λ k t. ap (λ b. cond b (h k t.vertex) 0) (ap (λ x. eqb x k || has k (f ∷ fs)) s.0 ∙ or_self_left (eqb f.set k) (has k fs))) 0 ts in
       a ∙ ih ∙ sym b)
       (λ (s : (e.set < f.set) × (f.place ≡ 0)).
       let lt : e.set < f.set = s.0 in

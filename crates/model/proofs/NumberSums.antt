@@ -2,7 +2,8 @@
 use Rattle.std.proofs.Common.{◌≡◌, ℕ, zero, suc, ◌+◌, ◌<◌, ◌≤◌, cond, eqb, List, [], ◌∷◌, ◌++◌, map, length, sum_by, refl, ap, ◌∙◌, ⊎_elim, arith}
 use Rattle.std.specs.List.{flat_map, AllByRecursion}
 use Rattle.std.proofs.lemmas.List.Sums.{sum_by-cons}
-use Rattle.std.proofs.lemmas.Bool.{cases_Bool, cases_eq, cases_lt, eq-eqb, ne_eqb, cond-true, cond-false}
+use Rattle.std.proofs.lemmas.Bool.{cases_Bool, cases_eq, cases_lt, cond-true, cond-false}
+use Rattle.model.proofs.Lists.{one_same, one_other}
 use Rattle.model.specs.Tables.{count_of}
 use Rattle.model.specs.NumberingLaws.{up_from}
 
@@ -90,12 +91,6 @@ one_le v t =
     (λ e. let h : one v t ≡ 0 = cond-false (eqb t v) 1 0 e in omega arith)
     (cases_Bool (eqb t v))
 
-pub one_here : (v : ℕ) → one v v ≡ 1
-one_here v = cond-true (eqb v v) 1 0 (eq-eqb v v refl)
-
-pub one_there : (v t : ℕ) → (t ≡ v → ⊥) → one v t ≡ 0
-one_there v t n = cond-false (eqb t v) 1 0 (ne_eqb t v n)
-
 pub count_tally : (v : ℕ) (ts : List ℕ) → count_of v ts ≡ tally (one v) ts
 count_tally v [] = refl
 count_tally v (t ∷ ts) = let e = count_tally v ts in omega arith
@@ -105,7 +100,7 @@ pub below_counts : (n : ℕ) (xs : List ℕ) → AllByRecursion (λ x. x < n) xs
 below_counts n [] h v l = refl
 below_counts n (x ∷ xs) h v l =
     let a : x < n = h.0 in
-    let z = one_there v x (λ e. omega arith) in
+    let z = one_other x v (λ e. omega arith) in
     let k = below_counts n xs h.1 v l in
     omega arith
 
@@ -115,7 +110,7 @@ counts_below n (x ∷ xs) h = (
   ⊎_elim
       (λ (l : x < n). l)
       (λ (l : n ≤ x).
-      let z = one_here x in
+      let z = one_same x x refl in
       let k = h x l in
       absurd (omega arith))
       (cases_lt x n),
@@ -126,7 +121,7 @@ counts_below n (x ∷ xs) h = (
 pub up_before : (v k n : ℕ) → v < k → tally_up (one v) k n ≡ 0
 up_before v k zero l = refl
 up_before v k (suc n) l =
-    let z = one_there v k (λ e. omega arith) in
+    let z = one_other k v (λ e. omega arith) in
     let r = up_before v (suc k) n (omega arith) in
     omega arith
 
@@ -139,7 +134,7 @@ up_once v k (suc n) =
     let r = up_before v (suc k) n (omega arith) in
     omega arith)
     (λ (d : k ≡ v → ⊥).
-    let z = one_there v k d in
+    let z = one_other k v d in
     let r = up_once v (suc k) n in
     omega arith)
     (cases_eq k v)
@@ -149,11 +144,11 @@ up_within v k zero l u = absurd (omega arith)
 up_within v k (suc n) l u =
     ⊎_elim
     (λ (e : k ≡ v).
-    let z : one v k ≡ 1 = ap (one v) e ∙ one_here v in
+    let z : one v k ≡ 1 = one_same k v e in
     let r = up_before v (suc k) n (omega arith) in
     omega arith)
     (λ (d : k ≡ v → ⊥).
-    let z = one_there v k d in
+    let z = one_other k v d in
     let r = up_within v (suc k) n (omega arith) (omega arith) in
     omega arith)
     (cases_eq k v)
@@ -161,6 +156,6 @@ up_within v k (suc n) l u =
 pub up_behind : (v k n : ℕ) → k + n ≤ v → tally_up (one v) k n ≡ 0
 up_behind v k zero l = refl
 up_behind v k (suc n) l =
-    let z = one_there v k (λ e. omega arith) in
+    let z = one_other k v (λ e. omega arith) in
     let r = up_behind v (suc k) n (omega arith) in
     omega arith

@@ -1,9 +1,10 @@
 -- The glyphs of a part: a stretch of the subtable's, of just the sets that the part has entries of; what neighbouring parts share.
-use Rattle.std.proofs.Common.{◌≡◌, ℕ, zero, suc, ◌+◌, ◌<◌, ◌≤◌, Bool, true, false, ◌||◌, eqb, ltb, ◌⊎◌, List, [], ◌∷◌, ◌++◌, map, length, sym, refl, ap, ◌∙◌, subst, inl, inr, ⊎_elim, append_assoc, arith}
+use Rattle.std.proofs.Common.{◌≡◌, ℕ, zero, suc, ◌+◌, ◌<◌, ◌≤◌, true, false, ◌||◌, eqb, ltb, ◌⊎◌, List, [], ◌∷◌, ◌++◌, map, length, sym, refl, ap, ◌∙◌, subst, inl, inr, ⊎_elim, append_assoc, arith}
 use mathlib.Core.List.{map-map, map-append}
 use Rattle.std.specs.List.{range_with_len, AllByRecursion}
 use Rattle.std.proofs.ByRecursion.{All-get_or}
 use Rattle.std.proofs.lemmas.Bool.{cases_Bool, cases_eq, eq-eqb, ne_eqb, eqb-true, cond-true, cond-false, both_ways, or_left, or_right, or_cases, and_parts, and_from, ltb-true}
+use Rattle.std.proofs.Math.Bool.{or_self_left}
 use Rattle.coverage.specs.Glyphs.{above, rises, GlyphList}
 use Rattle.coverage.proofs.Lists.{listed, above_rises}
 use Rattle.model.specs.Forest.{LigatureSet, Subtable}
@@ -168,10 +169,6 @@ marks_apart i (t ∷ ts) (a ∷ ms) cs is =
     }
 
 -- WHICH SETS A PART HAS
-pub or_again : (b x : Bool) → (b || (b || x)) ≡ (b || x)
-or_again true x = refl
-or_again false x = refl
-
 has-groups : (i : ℕ) (es : List Entry) → has i es ≡ among i (map (λ (t : Group). t.set) (groups es))
 has-groups i [] = refl
 has-groups i (e ∷ es) =
@@ -181,7 +178,7 @@ has-groups i (e ∷ es) =
     (λ g.
     ap (λ b. eqb e.set i || b) (h ∙ ap (λ (gs : List Group). among i (map set gs)) g.behind)
     ∙ ap (λ n. eqb n i || (eqb g.head.set i || among i (map set g.tail))) g.set
-    ∙ or_again (eqb g.head.set i) (among i (map set g.tail))
+    ∙ or_self_left (eqb g.head.set i) (among i (map set g.tail))
     ∙ sym (ap (λ (gs : List Group). among i (map set gs)) g.is))
     (λ n. ap (λ b. eqb e.set i || b) h ∙ sym (ap (λ (gs : List Group). among i (map set gs)) n.is))
     (group_step e es)

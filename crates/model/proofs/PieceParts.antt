@@ -2,7 +2,7 @@
 use Rattle.std.proofs.Common.{◌≡◌, ℕ, zero, suc, ◌+◌, ◌<◌, ◌≤◌, Bool, true, false, cond, not, ◌&&◌, ◌||◌, List, [], ◌∷◌, ◌++◌, map, drop, Some, None, sym, refl, ap, ◌∙◌, subst, inl, inr, ⊎_elim, arith}
 use Rattle.std.specs.List.{flat_map}
 use Rattle.std.proofs.lemmas.List.{append-nil}
-use Rattle.std.proofs.lemmas.Bool.{cond_both, both_ways}
+use Rattle.std.proofs.lemmas.Bool.{cond_both, both_ways, or_parts, and_parts, not-true}
 use Rattle.model.specs.Forest.{LigatureSet, Subtable}
 use Rattle.model.specs.Rules.{nth}
 use Rattle.model.specs.Cutting.{Entry, entries, nth_part}
@@ -22,20 +22,14 @@ nth_part_lem [] k p e = absurd (none_some e)
 nth_part_lem (q ∷ ps) zero p e = some_same {x = q} {y = p} e
 nth_part_lem (q ∷ ps) (suc k) p e = nth_part_lem ps k p e
 
-or_false : (a b : Bool) → (a || b) ≡ false → (a ≡ false) × (b ≡ false)
-or_false false b e = (refl, e)
-or_false true b e = absurd (both_ways true e refl)
-
 both_true : (a b : Bool) → (not a && not b) ≡ true → (a ≡ false) × (b ≡ false)
-both_true false false e = (refl, refl)
-both_true false true e = absurd (both_ways false refl e)
-both_true true b e = absurd (both_ways false refl e)
+both_true a b e = let h = and_parts (not a) (not b) e in (not-true a h.0, not-true b h.1)
 
 -- no part from n on has some of a set
 pub none_from : (i : ℕ) (ps : List (List Entry)) (n m : ℕ) → any_has i (drop n ps) ≡ false → n ≤ m → has i (nth_part ps m) ≡ false
 none_from i [] n m e l = refl
-none_from i (p ∷ ps) zero zero e l = (or_false (has i p) (any_has i ps) e).0
-none_from i (p ∷ ps) zero (suc m) e l = none_from i ps zero m (or_false (has i p) (any_has i ps) e).1 (omega arith)
+none_from i (p ∷ ps) zero zero e l = (or_parts (has i p) (any_has i ps) e).0
+none_from i (p ∷ ps) zero (suc m) e l = none_from i ps zero m (or_parts (has i p) (any_has i ps) e).1 (omega arith)
 none_from i (p ∷ ps) (suc n) zero e l = absurd (omega arith)
 none_from i (p ∷ ps) (suc n) (suc m) e l = none_from i ps n m e (omega arith)
 

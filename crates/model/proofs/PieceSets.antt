@@ -1,7 +1,7 @@
 -- Where the vertex of a divided set goes: each set of a piece has the vertex of its set in that set's home, else a new one.
 use Rattle.std.proofs.Common.{◌≡◌, ℕ, zero, suc, ◌+◌, ◌<◌, ◌≤◌, Bool, true, false, ◌||◌, eqb, ◌⊎◌, List, [], ◌∷◌, ◌++◌, length, Some, sym, refl, ap, ◌∙◌, subst, inl, inr, ⊎_elim, arith}
 use Rattle.std.specs.List.{flat_map, AllByRecursion}
-use Rattle.std.proofs.lemmas.Bool.{cases_Bool, cases_lt, cond_both, both_ways, eq-eqb, eqb-true, or_right}
+use Rattle.std.proofs.lemmas.Bool.{cases_Bool, cases_lt, cond_both, both_ways, eq-eqb, eqb-true, or_right, or_cases}
 use Rattle.model.specs.Forest.{Ligature, LigatureSet, Subtable}
 use Rattle.model.specs.Rules.{nth}
 use Rattle.model.specs.Cutting.{Entry, entries_from, sets_from, entries, nth_part}
@@ -16,10 +16,6 @@ use Rattle.model.proofs.Lists.{some_same, all-nth}
 use Rattle.model.proofs.KeepParts.{all_whole}
 use Rattle.model.proofs.KeepSizes.{join_all, length-divided, length_sets_of}
 use Rattle.model.proofs.PieceParts.{Piece, piece_of, none_from}
-
-or_cases : (x y : Bool) → (x || y) ≡ true → (x ≡ true) ⊎ (y ≡ true)
-or_cases true y e = inl refl
-or_cases false y e = inr e
 
 -- THE SET OF A GROUP: the part has some of it, and it stands in the subtable
 record Known (s : Subtable) (p : List Entry) (t : Group) : Type 0 where

@@ -5,6 +5,7 @@ use Rattle.std.specs.Option.{option_to_list}
 use Rattle.std.proofs.ByRecursion.{All-get_or}
 use Rattle.std.proofs.lemmas.List.{append-nil, length-map, get_or-map, get_or-append-add, get_or_append_left, take_all}
 use Rattle.std.proofs.lemmas.Bool.{both_ways, and_from, or_left, or_right, cond-true, le-leb, lt-ltb, eq-eqb}
+use Rattle.std.proofs.lemmas.List.Concat.{flat_map_single}
 use Rattle.data_bytes.specs.BigEndian.{word16, number_at}
 use Rattle.data_bytes.specs.Values.{value_bytes, values_at}
 use Rattle.coverage.specs.Meaning.{Meant}
@@ -74,10 +75,6 @@ pub slot_leads_last : (ss : List Start) (bs : List ℕ) (v p : ℕ) (us ts : Lis
 slot_leads_last ss bs v p us ts start h =
     slot_leads ss bs v p us ts [] start (subst (λ (x : List ℕ). Stands bs p (value_bytes (us ++ x))) (sym (append-nil (map (ahead ss v) ts))) h)
 
-joined_each : {X Y : Type 0} (f : X → Y) (xs : List X) → flat_map (λ (x : X). f x ∷ []) xs ≡ map f xs
-joined_each f [] = refl
-joined_each f (x ∷ xs) = ap (λ t. f x ∷ t) (joined_each f xs)
-
 -- A SET
 pub set_reads : (ss : List Start) (bs : List ℕ) (c low middle high : ℕ) (t : LigatureSet) → Sits (Near ss) ss bs low middle (set_table c t)
     → AllByRecursion (λ (g : Ligature). Sits (Near ss) ss bs middle high (ligature_table c g)) t.ligatures → set_at bs t.first (start_of ss t.vertex) ≡ Ok (set_rules t)
@@ -88,7 +85,7 @@ set_reads ss bs c low middle high t h a =
     cond-true _ _ _ (and_from _ _ (le-leb (p + 2) (length bs) (omega arith)) (le-leb (p + (2 + 2 * word16 bs p)) (length bs) (omega arith)))
     ∙ ap (each_slot (λ i q. ligature_at bs t.first q) bs p (p + 2) 0) count
     ∙ each_slot_lem (λ (g : Ligature). rule_of t.first g ∷ []) (λ i q. ligature_at bs t.first q) bs p gs (p + 2) 0 each
-    ∙ ap Ok (joined_each (rule_of t.first) gs) where
+    ∙ ap Ok (flat_map_single (rule_of t.first) gs) where
       gs : List Ligature
       gs = t.ligatures
 
