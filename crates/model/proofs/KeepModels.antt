@@ -3,6 +3,7 @@ use Rattle.std.proofs.Common.{◌≡◌, ℕ, zero, suc, ◌≤◌, Bool, true, 
 use Rattle.std.specs.List.{flat_map}
 use Rattle.std.proofs.lemmas.List.{map-append, length-set}
 use Rattle.std.proofs.lemmas.Bool.{leb-true, and_parts}
+use Rattle.std.proofs.lemmas.Option.{same_Some}
 use Rattle.refusals.specs.declared.Pool.{Pool}
 use Rattle.refusals.specs.declared.Refusal.{Refusal}
 use Rattle.refusals.specs.declared.Refusal.TheVariants.{NoLookup, BadCeiling, TooManySubtables, IsExtension, NoRule}
@@ -11,7 +12,7 @@ use Rattle.model.specs.Rules.{Rule, Sourced, rule_of, Shaped, subtable_rules, ru
 use Rattle.model.specs.Cutting.{entries, parts}
 use Rattle.model.specs.Splitting.{Capacities, Changed, Bill, divided, split_lookup, is_wrapped, split_bill, room_for, with_lookup, all_cuts, first_long, subtables_after, subtable_limit, noted, split_with, split_short, split_in, split, wrap_bill, wrap_lookup, wrap_in, wrap}
 use Rattle.model.specs.KeepingLaws.{Headed, SplittingKeepsHeads, WrappingKeepsHeads, Named, named, named_rules, answered, rules_in, named_in, SameRules, DivisionsKeepRules, SplittingKeepsRules, WrappingKeepsRules}
-use Rattle.model.proofs.Lists.{nth_set_same, nth_set_other, nth_set_kept, some_same, err_ok}
+use Rattle.model.proofs.Lists.{nth_set_same, nth_set_other, nth_set_kept}
 use Rattle.model.proofs.KeepTelling.{subtable_tells, divided_tells, split_all_tells, extended_tell, tells_map}
 use Rattle.model.proofs.PartsRule.{joined_parts}
 
@@ -105,19 +106,19 @@ pub record SplitMade (caps : Capacities) (wrote : ℕ → List ℕ) (m : Model) 
 
 cond_ok : (b : Bool) (x : Result Changed Refusal) (r : Refusal) (c : Changed) → cond b x (Err r) ≡ Ok c → (b ≡ true) × (x ≡ Ok c)
 cond_ok true x r c h = (refl, h)
-cond_ok false x r c h = absurd (err_ok h)
+cond_ok false x r c h = cc
 
 noted_ok : (o : Option Pool) (d c : Changed) → noted o d ≡ Ok c → (o ≡ None) × (c ≡ d)
 noted_ok None d c h = (refl, (cc))
-noted_ok (Some p) d c h = absurd (err_ok h)
+noted_ok (Some p) d c h = cc
 
 module _ (caps : Capacities) (wrote : ℕ → List ℕ) (m : Model) (n ceiling : ℕ) (c : Changed) where
   made_short : (l : Lookup) (o : Option ℕ) → split_short caps wrote m n ceiling l o ≡ Ok c → (o ≡ None) × (cond (leb (subtables_after ceiling l) subtable_limit) (split_with caps wrote m n ceiling l) (Err (TooManySubtables l.vertex)) ≡ Ok c)
   made_short l None h = (refl, h)
-  made_short l (Some v) h = absurd (err_ok h)
+  made_short l (Some v) h = cc
 
   made_in : (o : Option Lookup) → nth m.lookups n ≡ o → split_in caps wrote m n ceiling o ≡ Ok c → SplitMade caps wrote m n ceiling c
-  made_in None at h = absurd (err_ok h)
+  made_in None at h = cc
   made_in (Some l) at h =
       let a = cond_ok (leb 16 ceiling && leb ceiling 65535) (split_short caps wrote m n ceiling l (first_long ceiling l.subtables)) BadCeiling c h in
       let b = and_parts (leb 16 ceiling) (leb ceiling 65535) a.0 in
@@ -143,7 +144,7 @@ module _ (caps : Capacities) (wrote : ℕ → List ℕ) (m : Model) (n ceiling :
   pub split_is : (l : Lookup) → nth m.lookups n ≡ Some l → split caps wrote m n ceiling ≡ Ok c → split_to wrote m n ceiling l ≡ c
   split_is l was h =
       let s = split_made h in
-      ap (split_to wrote m n ceiling) (some_same (sym was ∙ s.found)) ∙ sym s.is
+      ap (split_to wrote m n ceiling) (same_Some _ _ (sym was ∙ s.found)) ∙ sym s.is
 
 -- WHAT AN ACCEPTED WRAP MET AND MADE
 abbrev pub wrap_to : Model → ℕ → Lookup → Changed
@@ -159,11 +160,11 @@ pub record WrapMade (caps : Capacities) (m : Model) (n : ℕ) (c : Changed) : Ty
 
 cond_ok_else : (b : Bool) (x : Result Changed Refusal) (r : Refusal) (c : Changed) → cond b (Err r) x ≡ Ok c → (b ≡ false) × (x ≡ Ok c)
 cond_ok_else false x r c h = (refl, h)
-cond_ok_else true x r c h = absurd (err_ok h)
+cond_ok_else true x r c h = cc
 
 module _ (caps : Capacities) (m : Model) (n : ℕ) (c : Changed) where
   wrapped_in : (o : Option Lookup) → nth m.lookups n ≡ o → wrap_in caps m n o ≡ Ok c → WrapMade caps m n c
-  wrapped_in None at h = absurd (err_ok h)
+  wrapped_in None at h = cc
   wrapped_in (Some l) at h =
       let a = cond_ok_else (is_wrapped l) (noted (room_for caps m.taken (wrap_bill l)) (wrap_to m n l)) IsExtension c h in
       let r = noted_ok (room_for caps m.taken (wrap_bill l)) (wrap_to m n l) c a.1 in
@@ -183,7 +184,7 @@ module _ (caps : Capacities) (m : Model) (n : ℕ) (c : Changed) where
   pub wrap_is : (l : Lookup) → nth m.lookups n ≡ Some l → wrap caps m n ≡ Ok c → (is_wrapped l ≡ false) × (wrap_to m n l ≡ c)
   wrap_is l was h =
       let s = wrap_made h in
-      let same : l ≡ s.lookup = some_same (sym was ∙ s.found) in
+      let same : l ≡ s.lookup = same_Some _ _ (sym was ∙ s.found) in
       (ap is_wrapped same ∙ s.plain, ap (wrap_to m n) same ∙ sym s.is)
 
 -- THEOREMS

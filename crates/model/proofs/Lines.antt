@@ -4,7 +4,7 @@ use Rattle.std.proofs.lemmas.List.{map-append}
 use Rattle.std.proofs.lemmas.Bool.{both_ways, cases_Bool, cond-true, cond-false}
 use Rattle.std.proofs.ByRecursion.{All-weaker}
 use Rattle.std.specs.List.{flat_map, AllByRecursion}
-use Rattle.std.proofs.lemmas.Option.{none-some}
+use Rattle.std.proofs.lemmas.Option.{none-some, same_Some}
 use Rattle.refusals.specs.declared.Refusal.{Refusal}
 use Rattle.refusals.specs.declared.Refusal.TheVariants.{OffsetOverflow, ShortBuffer, NoPlace}
 use Rattle.data_bytes.specs.Values.{value_bytes}
@@ -19,7 +19,6 @@ use Rattle.model.specs.Reading.{rules_in, shape_read, read}
 use Rattle.model.specs.Sound.{Good}
 use Rattle.model.specs.Book.{Call, do_split, do_wrap, do_write, do_shape, do_rule, do_read, Answer, refused, wrote, accepted, Page, page_of, book_of, lower, with_ceiling, with_kind7, on_page, page_shapes, rule_told, page_rule, Desk, output_of, answer_change, changed_model, answer_write, answer_shape, first_of, triple_of, answer_rule, answer, put_out, next_desk}
 use Rattle.model.specs.WrittenLaws.{SoundLookup}
-use Rattle.model.proofs.Lists.{some_same}
 use Rattle.model.proofs.KeepModels.{split_made, wrap_made}
 use Rattle.model.proofs.WrittenModels.{sound_nth}
 use Rattle.model.proofs.Sources.{source, bytes_of}
@@ -58,7 +57,7 @@ at (a_page m ms) (suc n) = at ms n
 -- one page and its lookup change together
 matches_set : {gs : List Page} {ls : List Lookup} → Matches gs ls → (n : ℕ) (f : Page → Page) (l l' : Lookup) → nth ls n ≡ Some l → ((g : Page) → Match g l → Match (f g) l') → Matches (on_page f n gs) (set ls n l')
 matches_set no_pages n f l l' e h = no_pages
-matches_set {gs = g ∷ gs} {ls = k ∷ ls} (a_page m ms) zero f l l' e h = a_page (h g (subst (Match g) (some_same e) m)) ms
+matches_set {gs = g ∷ gs} {ls = k ∷ ls} (a_page m ms) zero f l l' e h = a_page (h g (subst (Match g) (same_Some _ _ e) m)) ms
 matches_set (a_page m ms) (suc n) f l l' e h = a_page m (matches_set ms n f l l' e h)
 
 -- what was put out, and what the book keeps of it
@@ -141,9 +140,9 @@ not_far e = let z : ◌≡◌ {A = ℕ} 0 1 = cc in omega arith
 
 -- a ceiling that stands below another
 lower_cases : (o : Option ℕ) (c d : ℕ) → lower o c ≡ Some d → (d ≡ c) ⊎ (o ≡ Some d)
-lower_cases None c d e = inl (sym (some_same e))
+lower_cases None c d e = inl (sym (same_Some _ _ e))
 lower_cases (Some b) c d e =
-    ⊎_elim (λ t. inr (sym (cond-true (leb b c) (Some b) (Some c) t) ∙ e)) (λ f. inl (sym (some_same (sym (cond-false (leb b c) (Some b) (Some c) f) ∙ e)))) (cases_Bool (leb b c))
+    ⊎_elim (λ t. inr (sym (cond-true (leb b c) (Some b) (Some c) t) ∙ e)) (λ f. inl (sym (same_Some _ _ (sym (cond-false (leb b c) (Some b) (Some c) f) ∙ e)))) (cases_Bool (leb b c))
 
 module _ (caps : Capacities) (meaning : List ℕ → Option Meant) (span : List ℕ → ℕ) (know : Known caps meaning span) where
   record Inv (d : Desk) (h : Shelf) : Type 0 where

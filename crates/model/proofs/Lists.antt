@@ -1,9 +1,10 @@
 -- Lists: what holds of each element, elements by number, one element put in another's place, how often a number stands.
-use Rattle.std.proofs.Common.{◌≡◌, ℕ, zero, suc, ◌+◌, ◌≤◌, Bool, cond, eqb, List, [], ◌∷◌, ◌++◌, map, length, set, IfSome, Some, None, Ok, Err, Option, sym, refl, ap, subst, ⊎_elim, arith}
+use Rattle.std.proofs.Common.{◌≡◌, ℕ, zero, suc, ◌+◌, ◌≤◌, Bool, cond, eqb, List, [], ◌∷◌, ◌++◌, map, length, set, IfSome, Some, None, Option, sym, refl, ap, subst, ⊎_elim, arith}
 use Rattle.std.specs.Option.{option_to_list}
 use Rattle.std.specs.List.{flat_map, AllByRecursion}
 use Rattle.std.proofs.ByRecursion.{All-append}
 use Rattle.std.proofs.lemmas.Bool.{cases_eq, eq-eqb, ne_eqb, cond-true, cond-false}
+use Rattle.std.proofs.lemmas.Option.{same_Some}
 use Rattle.words.proofs.Saying.{none_some}
 use Rattle.model.specs.Rules.{nth}
 use Rattle.model.specs.Tables.{count_of}
@@ -42,15 +43,9 @@ joined_all P f [] h = tt
 joined_all P f (x ∷ xs) h = (all_front P (f x) (flat_map f xs) h, joined_all P f xs (all_back P (f x) (flat_map f xs) h))
 
 -- ELEMENTS BY NUMBER
-pub some_same : {X : Type 0} {x y : X} → Some x ≡ Some y → x ≡ y
-some_same e = cc
-
-pub err_ok : {X Y : Type 0} {x : X} {y : Y} → Err y ≡ Ok x → ⊥
-err_ok e = let z : ◌≡◌ {A = ℕ} 0 1 = cc in omega arith
-
 pub all-nth : {X : Type 0} (P : X → Type 0) (xs : List X) (n : ℕ) (x : X) → nth xs n ≡ Some x → AllByRecursion P xs → P x
 all-nth P [] n x e h = absurd (none_some e)
-all-nth P (y ∷ xs) zero x e h = subst P (some_same e) h.0
+all-nth P (y ∷ xs) zero x e h = subst P (same_Some _ _ e) h.0
 all-nth P (y ∷ xs) (suc n) x e h = all-nth P xs n x e h.1
 
 pub nth_set_same : {X : Type 0} (xs : List X) (n : ℕ) (x y : X) → nth xs n ≡ Some x → nth (set xs n y) n ≡ Some y

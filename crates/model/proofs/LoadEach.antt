@@ -1,6 +1,7 @@
 -- What stands at a place, and whether it is refused there, can be settled.
 use Rattle.std.proofs.Common.{◌≡◌, ℕ, ◌≤◌, ◌⊎◌, List, length, Some, None, count_by, Option, sym, refl, ap, ◌∙◌, subst, inl, inr, ⊎_elim, arith}
 use Rattle.std.proofs.lemmas.Bool.{cases_eq, cases_lt}
+use Rattle.std.proofs.lemmas.Option.{same_Some}
 use Rattle.refusals.specs.declared.Refusal.{Refusal}
 use Rattle.refusals.specs.declared.Refusal.TheVariants.{BadShape, BadCoverage, Empty, BadVirtual, TooManySubtables}
 use Rattle.words.specs.Grammar.{StreamTable, Stream}
@@ -11,7 +12,6 @@ use Rattle.model.specs.Tables.{head, lookup_table, subtable_table, set_table}
 use Rattle.model.specs.Splitting.{subtable_limit}
 use Rattle.model.specs.Rules.{nth}
 use Rattle.model.specs.Loading.{slots_of, virtuals_of, bytes_of, TableAt, shared, Loosely, Never, LookupShape, Place, at_lookup, at_extension, at_subtable, at_coverage, at_set, at_ligature, Kind, is_lookup, is_extension, is_subtable, is_coverage, is_set, is_ligature, Stands, root, extension, plain, wrapped, coverage, set, ligature, Shaped, value_at, Few, Filled, Covered, virtuals_at, Fault, misshapen, crowded, bare, uncovered, untied, Faulty}
-use Rattle.model.proofs.Lists.{some_same}
 use Rattle.model.proofs.LoadLists.{nth-map, nth_mapped}
 use Rattle.model.proofs.LoadSame.{SameLookup, lookup_same, subtable_same, set_same}
 use Rattle.model.proofs.LoadBack.{at_position}
@@ -263,7 +263,7 @@ module _ (meaning : List ℕ → Option Meant) where
       by (Some m) e =
           settled_as ((m.1 ≡ length bs) × (length m.0 ≡ n)) ((gs : List ℕ) × (meaning bs ≡ Some (gs, length bs)) × (length gs ≡ n))
           (λ x. (m.0, e ∙ ap (λ z. Some (m.0, z)) x.0, x.1))
-          (λ x. let same : m ≡ (x.0, length bs) = some_same (sym e ∙ x.1) in (ap (λ (z : Meant). z.1) same, ap (λ (z : Meant). length z.0) same ∙ x.2))
+          (λ x. let same : m ≡ (x.0, length bs) = same_Some _ _ (sym e ∙ x.1) in (ap (λ (z : Meant). z.1) same, ap (λ (z : Meant). length z.0) same ∙ x.2))
           (settled_both (m.1 ≡ length bs) (length m.0 ≡ n) (cases_eq m.1 (length bs)) (cases_eq (length m.0) n))
 
   covered_settled : (k : Kind) (t : StreamTable) → Settled (Covered meaning k t)

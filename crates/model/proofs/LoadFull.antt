@@ -6,6 +6,7 @@ use Rattle.std.proofs.lemmas.List.Sums.{sum_by-cons, sum_by-append}
 use Rattle.std.proofs.ByRecursion.{All-append, All-map, All-weaker, all-has, all_has_itself, all_shuffled, has_shuffled}
 use Rattle.std.proofs.lemmas.List.Sorted.{sum_by-IsPermutation}
 use Rattle.std.proofs.lemmas.Bool.{cases_eq, cases_lt}
+use Rattle.std.proofs.lemmas.Option.{same_Some}
 use Rattle.words.specs.Grammar.{StreamTable, Stream}
 use Rattle.coverage.specs.Meaning.{Meant}
 use Rattle.model.specs.Forest.{Ligature, LigatureSet, Subtable, Lookup, Taken, Model}
@@ -13,7 +14,7 @@ use Rattle.model.specs.Tables.{Slot, slots_from, Table, Placed, head, head_or, l
 use Rattle.model.specs.Rules.{nth}
 use Rattle.model.specs.Sound.{Distinct}
 use Rattle.model.specs.Loading.{slots_of, virtuals_of, bytes_of, TableAt, Spelt, Loose, nowhere, nowhere_virtual, beyond, shared, Loosely, named, entered, Reached, root, onward, Astray, root_entered, entered_twice, named_twice, unreached, Strays, Never, Holds, Loaded, table_in}
-use Rattle.model.proofs.Lists.{all_parts_lem, some_same, all-nth, count_append, distinct_count, one, one_same, one_other}
+use Rattle.model.proofs.Lists.{all_parts_lem, all-nth, count_append, distinct_count, one, one_same, one_other}
 use Rattle.model.proofs.LoadLists.{count_cons, nth_below, nth_there, sum_one, sum_zero}
 use Rattle.model.proofs.LoadSame.{targets_from}
 use Rattle.model.proofs.LoadBack.{SoundSlot, Sound, SoundAt, found, tally, at_position}
@@ -85,7 +86,7 @@ pub record Held (m : Model) (v : ℕ) (t : StreamTable) : Type 0 where
   pub virtuals : virtuals_of t.links ≡ placed.table.virtuals
 
 pub table_same : (s : Stream) (v : ℕ) (t u : StreamTable) → TableAt s v t → TableAt s v u → t ≡ u
-table_same s v t u e f = some_same (sym e ∙ f)
+table_same s v t u e f = same_Some _ _ (sym e ∙ f)
 
 pub held_from : (s : Stream) (m : Model) (v : ℕ) (t : StreamTable) → AllByRecursion (Holds s) (model_walk m) → 0 < count_of v (map vertex_of (model_walk m)) → TableAt s v t → Held m v t
 held_from s m v t h c e =

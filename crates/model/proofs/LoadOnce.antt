@@ -2,11 +2,12 @@
 use Rattle.std.proofs.Common.{◌≡◌, ℕ, Bool, true, false, ◌⊎◌, List, [], ◌∷◌, map, length, is_some, Some, None, Ok, Err, Option, Result, sym, refl, ap, ◌∙◌, subst, inl, inr, ⊎_elim, arith}
 use Rattle.std.specs.List.{flat_map, AllByRecursion}
 use Rattle.std.proofs.lemmas.Bool.{both_ways, cases_order}
+use Rattle.std.proofs.lemmas.Option.{same_Some}
 use Rattle.refusals.specs.declared.Pool.{Pool}
 use Rattle.refusals.specs.declared.Refusal.{Refusal}
 use Rattle.refusals.specs.declared.Refusal.TheVariants.{BadWord, NoRoom, BadLink, BadEntry}
 use Rattle.words.specs.Grammar.{StreamTable, Stream, Spells, Misfit}
-use Rattle.words.proofs.Saying.{none_some, cons_nil}
+use Rattle.words.proofs.Saying.{cons_nil}
 use Rattle.words.proofs.Whole.{streams_spell_lem, misfits_tell_lem}
 use Rattle.coverage.specs.Meaning.{Meant}
 use Rattle.model.specs.Forest.{Ligature, LigatureSet, Subtable, Lookup, Model}
@@ -15,9 +16,9 @@ use Rattle.model.specs.Splitting.{Capacities}
 use Rattle.model.specs.Sound.{GoodSubtable, GoodLookup, Lawful, glyphs_of}
 use Rattle.model.specs.Loading.{TableAt, Spelt, taken_by, short_of, Loosely, Strays, Lowest, Never, FirstFault, Holds, Loaded, Loads, misfit, short, loose, astray, faulty, accepted}
 use Rattle.model.specs.LoadingLaws.{OutcomesUnique}
-use Rattle.model.proofs.Lists.{all_parts_lem, joined_all, some_same}
+use Rattle.model.proofs.Lists.{all_parts_lem, joined_all}
 use Rattle.model.proofs.LoadBack.{kinds, Wrapped, walk_sound}
-use Rattle.model.proofs.LoadSame.{SameLookup, same_first, same_tail, lookup_same, extension_same, subtable_same, set_same, ligature_same}
+use Rattle.model.proofs.LoadSame.{SameLookup, lookup_same, extension_same, subtable_same, set_same, ligature_same}
 use Rattle.model.proofs.LoadFull.{table_same, none_loose, none_strays}
 use Rattle.model.proofs.LoadWalk.{first_same}
 use Rattle.model.proofs.LoadOwned.{none_faulty}
@@ -36,11 +37,11 @@ module _ (s : Stream) where
   same_ligatures c d [] (h ∷ hs) e a b = absurd (cons_nil (sym e))
   same_ligatures c d (g ∷ gs) [] e a b = absurd (cons_nil e)
   same_ligatures c d (g ∷ gs) (h ∷ hs) e a b =
-      let v = same_first g.vertex h.vertex (map (λ (x : Ligature). x.vertex) gs) (map (λ (x : Ligature). x.vertex) hs) e in
+      let v : g.vertex ≡ h.vertex = cc in
       let t = both_spelt (ligature_table c g) (ligature_table d h) v a.0 b.0 in
       let r = ligature_same t.0 c d g h t.1 t.2 in
       let same : g ≡ h = λ i. record { vertex = v i; glyph = r.0 i; components = r.1 i } in
-      let rest = same_ligatures c d gs hs (same_tail g.vertex h.vertex (map (λ (x : Ligature). x.vertex) gs) (map (λ (x : Ligature). x.vertex) hs) e) a.1 b.1 in
+      let rest = same_ligatures c d gs hs (cc) a.1 b.1 in
       λ i. same i ∷ rest i
 
   same_sets : (c d : ℕ) (ys zs : List LigatureSet) → map (λ (y : LigatureSet). y.vertex) ys ≡ map (λ (y : LigatureSet). y.vertex) zs → map (λ (y : LigatureSet). y.first) ys ≡ map (λ (y : LigatureSet). y.first) zs
@@ -49,12 +50,12 @@ module _ (s : Stream) where
   same_sets c d [] (z ∷ zs) e f a b = absurd (cons_nil (sym e))
   same_sets c d (y ∷ ys) [] e f a b = absurd (cons_nil e)
   same_sets c d (y ∷ ys) (z ∷ zs) e f a b =
-      let v = same_first y.vertex z.vertex (map (λ (x : LigatureSet). x.vertex) ys) (map (λ (x : LigatureSet). x.vertex) zs) e in
-      let w = same_first y.first z.first (map (λ (x : LigatureSet). x.first) ys) (map (λ (x : LigatureSet). x.first) zs) f in
+      let v : y.vertex ≡ z.vertex = cc in
+      let w : y.first ≡ z.first = cc in
       let t = both_spelt (set_table c y) (set_table d z) v a.0.0 b.0.0 in
       let r = same_ligatures c d y.ligatures z.ligatures (set_same t.0 c d y z t.1 t.2) a.0.1 b.0.1 in
       let same : y ≡ z = λ i. record { vertex = v i; first = w i; ligatures = r i } in
-      let rest = same_sets c d ys zs (same_tail y.vertex z.vertex (map (λ (x : LigatureSet). x.vertex) ys) (map (λ (x : LigatureSet). x.vertex) zs) e) (same_tail y.first z.first (map (λ (x : LigatureSet). x.first) ys) (map (λ (x : LigatureSet). x.first) zs) f) a.1 b.1 in
+      let rest = same_sets c d ys zs (cc) (cc) a.1 b.1 in
       λ i. same i ∷ rest i
 
   same_heads : (w : Bool) (o p : Option ℕ) (u v : ℕ) → is_some o ≡ w → is_some p ≡ w → head_or o u ≡ head_or p v → AllByRecursion (Holds s) (extension_walk o u) → AllByRecursion (Holds s) (extension_walk p v) → (o ≡ p) × (u ≡ v)
@@ -67,7 +68,7 @@ module _ (s : Stream) where
 
   module _ (meaning : List ℕ → Option Meant) where
     same_meant : (gs hs : List ℕ) (j k : ℕ) → ◌≡◌ {A = Option Meant} (Some (gs, j)) (Some (hs, k)) → gs ≡ hs
-    same_meant gs hs j k e = ap (λ (m : Meant). m.0) (some_same e)
+    same_meant gs hs j k e = ap (λ (m : Meant). m.0) (same_Some _ _ e)
 
     same_subtable : (w : Bool) (x y : Subtable) → is_some x.extension ≡ w → is_some y.extension ≡ w → head x ≡ head y
         → AllByRecursion (Holds s) (subtable_walk x) → AllByRecursion (Holds s) (subtable_walk y) → GoodSubtable meaning x → GoodSubtable meaning y → x ≡ y
@@ -89,9 +90,9 @@ module _ (s : Stream) where
     same_subtables w [] (y ∷ ys) p q e a b g k = absurd (cons_nil (sym e))
     same_subtables w (x ∷ xs) [] p q e a b g k = absurd (cons_nil e)
     same_subtables w (x ∷ xs) (y ∷ ys) p q e a b g k =
-        let v = same_first (head x) (head y) (map (λ (z : Subtable). head z) xs) (map (λ (z : Subtable). head z) ys) e in
+        let v : head x ≡ head y = cc in
         let same = same_subtable w x y p.0 q.0 v a.0 b.0 g.0 k.0 in
-        let rest = same_subtables w xs ys p.1 q.1 (same_tail (head x) (head y) (map (λ (z : Subtable). head z) xs) (map (λ (z : Subtable). head z) ys) e) a.1 b.1 g.1 k.1 in
+        let rest = same_subtables w xs ys p.1 q.1 (cc) a.1 b.1 g.1 k.1 in
         λ i. same i ∷ rest i
 
     same_lookup : (l k : Lookup) → l.vertex ≡ k.vertex → AllByRecursion (Holds s) (lookup_walk l) → AllByRecursion (Holds s) (lookup_walk k) → GoodLookup meaning l → GoodLookup meaning k → l ≡ k
@@ -119,9 +120,9 @@ module _ (s : Stream) where
     same_lookups [] (k ∷ ks) e a b g j = absurd (cons_nil (sym e))
     same_lookups (l ∷ ls) [] e a b g j = absurd (cons_nil e)
     same_lookups (l ∷ ls) (k ∷ ks) e a b g j =
-        let v = same_first l.vertex k.vertex (map (λ (x : Lookup). x.vertex) ls) (map (λ (x : Lookup). x.vertex) ks) e in
+        let v : l.vertex ≡ k.vertex = cc in
         let same = same_lookup l k v a.0 b.0 g.0 j.0 in
-        let rest = same_lookups ls ks (same_tail l.vertex k.vertex (map (λ (x : Lookup). x.vertex) ls) (map (λ (x : Lookup). x.vertex) ks) e) a.1 b.1 g.1 j.1 in
+        let rest = same_lookups ls ks (cc) a.1 b.1 g.1 j.1 in
         λ i. same i ∷ rest i
 
     pub same_model : (m n : Model) → Loaded meaning s m → Loaded meaning s n → m ≡ n
@@ -144,9 +145,6 @@ misfits_same ws i j a b = let e = sym ((misfits_tell_lem ws i).1 a) ∙ (misfits
 misfit_spells : (ws : List ℕ) (i : ℕ) (s : Stream) → Misfit ws i → Spells ws s → ⊥
 misfit_spells ws i s a b = a.wanting (s, b)
 
-roomy : {o : Option Pool} {p : Pool} {X : Type 0} → o ≡ Some p → o ≡ None → X
-roomy e f = absurd (none_some (sym f ∙ e))
-
 -- what becomes of words that spell a stream
 data Read (meaning : List ℕ → Option Meant) (caps : Capacities) (s : Stream) : Result Model Refusal → Type 0 where
   r_short : (p : Pool) → short_of caps (taken_by s) ≡ Some p → Read meaning caps s (Err (NoRoom p))
@@ -160,27 +158,27 @@ module _ {admits : List ℕ → Type 0} {meaning : List ℕ → Option Meant} {s
   tight {s} m h = none_loose meaning s m h (walk_sound law m h.good)
 
   read_same : {s : Stream} {q r : Result Model Refusal} → Read meaning caps s q → Read meaning caps s r → q ≡ r
-  read_same (r_short p e) (r_short q f) = ap (λ x. Err (NoRoom x)) (some_same (sym e ∙ f))
-  read_same (r_short p e) (r_loose w f b) = roomy e f
-  read_same (r_short p e) (r_astray w f b c) = roomy e f
-  read_same (r_short p e) (r_faulty w f b c d) = roomy e f
-  read_same (r_short p e) (r_loaded n f b) = roomy e f
-  read_same (r_loose v e a) (r_short q f) = roomy f e
+  read_same (r_short p e) (r_short q f) = ap (λ x. Err (NoRoom x)) (same_Some _ _ (sym e ∙ f))
+  read_same (r_short p e) (r_loose w f b) = cc
+  read_same (r_short p e) (r_astray w f b c) = cc
+  read_same (r_short p e) (r_faulty w f b c d) = cc
+  read_same (r_short p e) (r_loaded n f b) = cc
+  read_same (r_loose v e a) (r_short q f) = cc
   read_same {s} (r_loose v e a) (r_loose w f b) = ap (λ x. Err (BadLink x)) (lowest_same (Loosely s) v w a b)
   read_same (r_loose v e a) (r_astray w f b c) = absurd (b v a.holds)
   read_same (r_loose v e a) (r_faulty w f b c d) = absurd (b v a.holds)
   read_same (r_loose v e a) (r_loaded n f b) = absurd (tight n b v a.holds)
-  read_same (r_astray v e a x) (r_short q f) = roomy f e
+  read_same (r_astray v e a x) (r_short q f) = cc
   read_same (r_astray v e a x) (r_loose w f b) = absurd (a w b.holds)
   read_same {s} (r_astray v e a x) (r_astray w f b c) = ap (λ z. Err (BadEntry z)) (lowest_same (Strays s) v w x c)
   read_same (r_astray v e a x) (r_faulty w f b c d) = absurd (c v x.holds)
   read_same {s} (r_astray v e a x) (r_loaded n f b) = absurd (none_strays meaning s n b v x.holds)
-  read_same (r_faulty v e a x y) (r_short q f) = roomy f e
+  read_same (r_faulty v e a x y) (r_short q f) = cc
   read_same (r_faulty v e a x y) (r_loose w f b) = absurd (a w b.holds)
   read_same (r_faulty v e a x y) (r_astray w f b c) = absurd (x w c.holds)
   read_same {s} (r_faulty v e a x y) (r_faulty w f b c d) = ap Err (first_same meaning s v w y d)
   read_same {s} (r_faulty v e a x y) (r_loaded n f b) = absurd (none_faulty meaning s n b y.place v y.faulty)
-  read_same (r_loaded m e a) (r_short q f) = roomy f e
+  read_same (r_loaded m e a) (r_short q f) = cc
   read_same (r_loaded m e a) (r_loose w f b) = absurd (tight m a w b.holds)
   read_same {s} (r_loaded m e a) (r_astray w f b c) = absurd (none_strays meaning s m a w c.holds)
   read_same {s} (r_loaded m e a) (r_faulty w f b c d) = absurd (none_faulty meaning s m a d.place w d.faulty)

@@ -107,22 +107,11 @@ same_targets p us vs e = sym (targets_from p us) ∙ ap (map (λ (l : Slot). l.t
 pub same_values : (us vs : List ℕ) → value_bytes us ≡ value_bytes vs → us ≡ vs
 same_values us vs e = sym (values_value_bytes us) ∙ ap values e ∙ values_value_bytes vs
 
-tail_of : List ℕ → List ℕ
-tail_of [] = []
-tail_of (x ∷ xs) = xs
-
-pub same_tail : (x y : ℕ) (xs ys : List ℕ) → x ∷ xs ≡ y ∷ ys → xs ≡ ys
-unfolding tail_of
-same_tail x y xs ys e = ap tail_of e
-
-pub same_first : (x y : ℕ) (xs ys : List ℕ) → x ∷ xs ≡ y ∷ ys → x ≡ y
-same_first x y xs ys e = ap (λ zs. get_or zs 0 0) e
-
 list_mark : (a b : Option ℕ) → option_to_list a ≡ option_to_list b → a ≡ b
 list_mark None None e = refl
 list_mark None (Some y) e = absurd (cons_nil (sym e))
 list_mark (Some x) None e = absurd (cons_nil e)
-list_mark (Some x) (Some y) e = ap Some (same_first x y [] [] e)
+list_mark (Some x) (Some y) e = cc
 
 -- THE KINDS
 pub record SameLookup (l k : Lookup) : Type 0 where
@@ -138,14 +127,12 @@ pub lookup_same : (t : StreamTable) (l k : Lookup) → Spelt t (lookup_table l).
 lookup_same t l k x y =
     let s = spelt_same t (lookup_table l).table (lookup_table k).table (up_from 6 0 (heads l) (omega arith)) (up_from 6 0 (heads k) (omega arith)) x y in
     let e0 = same_values (l.kind ∷ l.flag ∷ length l.subtables ∷ (zeros (length l.subtables) ++ option_to_list l.mark)) (k.kind ∷ k.flag ∷ length k.subtables ∷ (zeros (length k.subtables) ++ option_to_list k.mark)) s.bytes in
-    let e1 = same_tail l.kind k.kind (l.flag ∷ length l.subtables ∷ (zeros (length l.subtables) ++ option_to_list l.mark)) (k.flag ∷ length k.subtables ∷ (zeros (length k.subtables) ++ option_to_list k.mark)) e0 in
-    let e2 = same_tail l.flag k.flag (length l.subtables ∷ (zeros (length l.subtables) ++ option_to_list l.mark)) (length k.subtables ∷ (zeros (length k.subtables) ++ option_to_list k.mark)) e1 in
-    let n = same_first (length l.subtables) (length k.subtables) (zeros (length l.subtables) ++ option_to_list l.mark) (zeros (length k.subtables) ++ option_to_list k.mark) e2 in
-    let e3 = same_tail (length l.subtables) (length k.subtables) (zeros (length l.subtables) ++ option_to_list l.mark) (zeros (length k.subtables) ++ option_to_list k.mark) e2 in
+    let n : length l.subtables ≡ length k.subtables = cc in
+    let e1 : zeros (length l.subtables) ++ option_to_list l.mark ≡ zeros (length k.subtables) ++ option_to_list k.mark = cc in
     record {
-      kind = same_first l.kind k.kind (l.flag ∷ length l.subtables ∷ (zeros (length l.subtables) ++ option_to_list l.mark)) (k.flag ∷ length k.subtables ∷ (zeros (length k.subtables) ++ option_to_list k.mark)) e0;
-      flag = same_first l.flag k.flag (length l.subtables ∷ (zeros (length l.subtables) ++ option_to_list l.mark)) (length k.subtables ∷ (zeros (length k.subtables) ++ option_to_list k.mark)) e1;
-      mark = list_mark l.mark k.mark (append_cancel_left (zeros (length l.subtables)) (option_to_list l.mark) (option_to_list k.mark) (e3 ∙ ap (λ c. zeros c ++ option_to_list k.mark) (sym n)));
+      kind = cc;
+      flag = cc;
+      mark = list_mark l.mark k.mark (append_cancel_left (zeros (length l.subtables)) (option_to_list l.mark) (option_to_list k.mark) (e1 ∙ ap (λ c. zeros c ++ option_to_list k.mark) (sym n)));
       heads = same_targets 6 (heads l) (heads k) s.slots;
     }
 
@@ -182,8 +169,5 @@ set_same t c d a b x y =
 
 pub ligature_same : (t : StreamTable) (c d : ℕ) (a b : Ligature) → Spelt t (ligature_table c a).table → Spelt t (ligature_table d b).table → (a.glyph ≡ b.glyph) × (a.components ≡ b.components)
 ligature_same t c d a b x y =
-    let e0 = same_values (a.glyph ∷ suc (length a.components) ∷ a.components) (b.glyph ∷ suc (length b.components) ∷ b.components) (sym x.bytes ∙ y.bytes) in
-    let e1 = same_tail a.glyph b.glyph (suc (length a.components) ∷ a.components) (suc (length b.components) ∷ b.components) e0 in (
-      same_first a.glyph b.glyph (suc (length a.components) ∷ a.components) (suc (length b.components) ∷ b.components) e0,
-      same_tail (suc (length a.components)) (suc (length b.components)) a.components b.components e1,
-    )
+    let e = same_values (a.glyph ∷ suc (length a.components) ∷ a.components) (b.glyph ∷ suc (length b.components) ∷ b.components) (sym x.bytes ∙ y.bytes) in
+    ((cc), (cc))

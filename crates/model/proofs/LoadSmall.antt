@@ -1,6 +1,7 @@
 -- Small streams that are refused.
 use Rattle.std.proofs.Common.{◌≡◌, ℕ, zero, suc, ◌+◌, ◌<◌, ◌≤◌, cond, leb, List, [], ◌∷◌, length, Some, None, Option, sym, refl, ap, ◌∙◌, subst, arith}
 use Rattle.std.proofs.lemmas.Bool.{cond-true, le-leb}
+use Rattle.std.proofs.lemmas.Option.{same_Some}
 use Rattle.refusals.specs.declared.Pool.TheVariants.{Vertices, Links, Bytes as Bytes'}
 use Rattle.refusals.specs.declared.Refusal.TheVariants.{BadShape}
 use Rattle.words.specs.Grammar.{StreamLink, virtual, StreamTable, Stream}
@@ -12,7 +13,6 @@ use Rattle.model.specs.Tables.{lookup_table}
 use Rattle.model.specs.Splitting.{Capacities}
 use Rattle.model.specs.Loading.{short_of, TableAt, Loose, nowhere, nowhere_virtual, beyond, shared, Loosely, Reached, root, onward, Astray, root_entered, entered_twice, named_twice, unreached, Strays, Never, at_lookup, is_lookup, Stands.root as root', Shaped, misshapen, faulty, astray, loose}
 use Rattle.model.specs.LoadingLaws.{SmallRefused}
-use Rattle.model.proofs.Lists.{some_same}
 use Rattle.model.proofs.LoadSame.{has_first, has_none}
 use Rattle.model.proofs.LoadSteps.{clear_start}
 
@@ -34,7 +34,7 @@ roomy caps n a b =
     ∙ cond-true (leb (0 + 0) caps.bytes) None (Some Bytes') (le-leb (0 + 0) caps.bytes (omega arith))
 
 only_table : (ls : List StreamLink) (rs : List ℕ) (v : ℕ) (t : StreamTable) → TableAt (empty_stream ls rs) v t → (v ≡ 0) × (t ≡ empty_table ls)
-only_table ls rs zero t e = (refl, sym (some_same e))
+only_table ls rs zero t e = (refl, sym (same_Some _ _ e))
 only_table ls rs (suc v) t e = absurd (none_some e)
 
 not_loose : (rs : List ℕ) → Never (Loosely (empty_stream [] rs))

@@ -2,21 +2,21 @@
 use Rattle.std.proofs.Common.{◌≡◌, ℕ, zero, suc, ◌⊎◌, List, [], ◌∷◌, map, length, Some, Option, sym, refl, ap, ◌∙◌, subst, inl, inr, ⊎_elim, arith}
 use Rattle.std.proofs.lemmas.List.{length-map}
 use Rattle.std.proofs.lemmas.Bool.{cases_order}
+use Rattle.std.proofs.lemmas.Option.{same_Some}
 use Rattle.refusals.specs.declared.Refusal.{Refusal}
 use Rattle.words.specs.Grammar.{StreamTable, Stream}
 use Rattle.coverage.specs.Meaning.{Meant}
 use Rattle.model.specs.Forest.{Ligature, LigatureSet, Subtable, Lookup}
 use Rattle.model.specs.Tables.{Table, head, lookup_table, extension_table, subtable_table, set_table}
 use Rattle.model.specs.Rules.{nth}
-use Rattle.model.specs.Loading.{TableAt, Spelt, LookupShape, Place, at_lookup, at_extension, at_subtable, at_coverage, at_set, at_ligature, path, Before, Kind, is_lookup, is_extension, is_subtable, is_coverage, is_set, is_ligature, Stands, root, extension, plain, wrapped, coverage, set, ligature, Fault, misshapen, crowded, bare, uncovered, untied, Faulty, FirstFault}
-use Rattle.model.proofs.Lists.{some_same}
+use Rattle.model.specs.Loading.{TableAt, Spelt, LookupShape, Place, at_lookup, at_extension, at_subtable, at_coverage, at_set, at_ligature, path, Before, Kind, is_lookup, is_coverage, is_set, is_ligature, Stands, root, extension, plain, wrapped, coverage, set, ligature, Fault, misshapen, crowded, bare, uncovered, untied, Faulty, FirstFault}
 use Rattle.model.proofs.LoadLists.{nth-map}
 use Rattle.model.proofs.LoadSame.{lookup_same, extension_same, subtable_same, set_same}
 use Rattle.model.proofs.LoadFull.{table_same}
 
 -- ONE VERTEX AT A PLACE
 same_nth : {X : Type 0} (r : X → ℕ) (xs ys : List X) (k : ℕ) (x y : X) → map r xs ≡ map r ys → nth xs k ≡ Some x → nth ys k ≡ Some y → r x ≡ r y
-same_nth r xs ys k x y e f g = some_same (sym (nth-map r xs k x f) ∙ ap (λ zs. nth zs k) e ∙ nth-map r ys k y g)
+same_nth r xs ys k x y e f g = same_Some _ _ (sym (nth-map r xs k x f) ∙ ap (λ zs. nth zs k) e ∙ nth-map r ys k y g)
 
 -- two at one place: of one kind, and the same vertex
 abbrev Agree : Kind → ℕ → Kind → ℕ → Type 0
@@ -25,17 +25,8 @@ Agree k v j w = (k ≡ j) × (v ≡ w)
 pub same_length : {X : Type 0} (r : X → ℕ) (xs ys : List X) → map r xs ≡ map r ys → length xs ≡ length ys
 same_length r xs ys e = sym (length-map xs r) ∙ ap length e ∙ length-map ys r
 
-under : Kind → ℕ
-under is_lookup = 0
-under is_extension = 0
-under is_subtable = 0
-under (is_coverage n) = n
-under (is_set c) = c
-under (is_ligature c) = c
-
 pub set_under : {c d : ℕ} → is_set c ≡ is_set d → c ≡ d
-unfolding under
-set_under e = ap under e
+set_under e = cc
 
 -- PLACES IN ORDER
 pub compare : (ps qs : List ℕ) → Before ps qs ⊎ (Before qs ps ⊎ (ps ≡ qs))
@@ -82,7 +73,7 @@ module _ (s : Stream) where
   rooted (root i v e) = e
 
   pub roots_same : {i v w : ℕ} {k j : Kind} → Stands s (at_lookup i) k v → Stands s (at_lookup i) j w → v ≡ w
-  roots_same a b = some_same (sym (rooted a) ∙ rooted b)
+  roots_same a b = same_Some _ _ (sym (rooted a) ∙ rooted b)
 
   -- what stands above an extension table
   pub record Extended (i j e : ℕ) : Type 0 where
@@ -113,7 +104,7 @@ module _ (s : Stream) where
       same_nth (λ (z : Subtable). head z) l.subtables k.subtables j x y (lookup_same t l k f.table (shared_table (lookup_table k).table (roots_same a b) p q g.table)).heads
 
   pub stands_same : {p : Place} {k j : Kind} {v w : ℕ} → Stands s p k v → Stands s p j w → Agree k v j w
-  stands_same (root i v e) (root i' w f) = (refl, some_same (sym e ∙ f))
+  stands_same (root i v e) (root i' w f) = (refl, same_Some _ _ (sym e ∙ f))
   stands_same (extension i j v t l x a b c d e) (extension i' j' v' t' l' x' a' b' c' d' e') = (refl, heads_same l l' j x x' a a' b b' c c' e e')
   stands_same (plain i j v t l x a b c d e) (plain i' j' v' t' l' x' a' b' c' d' e') = (refl, heads_same l l' j x x' a a' b b' c c' e e')
   stands_same (plain i j v t l x a b c d e) (wrapped i' j' v' t' u' a' b' c') =

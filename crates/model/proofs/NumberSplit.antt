@@ -2,6 +2,7 @@
 use Rattle.std.proofs.Common.{◌≡◌, ℕ, ◌+◌, ◌≤◌, List, [], ◌∷◌, ◌++◌, set, Some, sum_by, Option, sym, refl, ap, ◌∙◌, subst, arith}
 use Rattle.std.specs.List.{flat_map, AllByRecursion}
 use Rattle.std.proofs.ByRecursion.{All-set}
+use Rattle.std.proofs.lemmas.Option.{same_Some}
 use Rattle.coverage.specs.Meaning.{Meant}
 use Rattle.model.specs.Forest.{Lookup, Model}
 use Rattle.model.specs.Tables.{Placed, lookup_walk, links_of}
@@ -11,7 +12,7 @@ use Rattle.model.specs.Splitting.{split_all, is_wrapped, split_lookup, inside, c
 use Rattle.model.specs.Sound.{GoodLookup, Good, Lawful}
 use Rattle.model.specs.NumberingLaws.{up_from, Family, families, pieces_of, family_vertices, family_bytes, lookup_bytes, divided_tables, lookup_tables, taken_tables, Lie, Short, Splits, Numbered, NumbersNewVertices, Billed, BillsExactly, Tidy, Roomy, Kept, KeepsVerticesDistinct}
 use Rattle.model.specs.CuttingLaws.{bytes_of}
-use Rattle.model.proofs.Lists.{nth_set_same, some_same}
+use Rattle.model.proofs.Lists.{nth_set_same}
 use Rattle.model.proofs.NumberSums.{tally, tally_sum, tally_append, tally_up}
 use Rattle.model.proofs.NumberWeights.{SomeSets}
 use Rattle.model.proofs.NumberWalks.{lookup_vertices, lookup_links, lookup_bytes_lem, walk_in_place}
@@ -28,7 +29,7 @@ pub splits_to : (P : Lookup → Changed → Type 0) (m : Model) (n ceiling : ℕ
 splits_to P m n ceiling l after c s h =
     let e : split_to s.wrote m n ceiling l ≡ c = split_is s.caps s.wrote m n ceiling c l s.was s.accepted in
     let new = split_lookup ceiling s.wrote m.taken.vertices l in
-    let f : new ≡ after = some_same (sym (nth_set_same m.lookups n l new s.was) ∙ ap (λ (x : Changed). nth x.model.lookups n) e ∙ s.is) in
+    let f : new ≡ after = same_Some _ _ (sym (nth_set_same m.lookups n l new s.was) ∙ ap (λ (x : Changed). nth x.model.lookups n) e ∙ s.is) in
     subst (λ (x : Lookup). P x c) f (subst (λ (x : Changed). P new x) e h)
 
 -- ALL OF IT, of the model and the lookup by name

@@ -3,6 +3,7 @@ use Rattle.std.proofs.Common.{◌≡◌, ℕ, suc, ◌+◌, ◌*◌, ◌≤◌, 
 use Rattle.std.specs.List.{flat_map, AllByRecursion}
 use Rattle.std.proofs.ByRecursion.{All-set}
 use Rattle.std.proofs.lemmas.Bool.{true≢false}
+use Rattle.std.proofs.lemmas.Option.{same_Some}
 use Rattle.coverage.specs.Meaning.{Meant}
 use Rattle.model.specs.Forest.{Subtable, Lookup, Model}
 use Rattle.model.specs.Tables.{Placed, lookup_walk, links_of}
@@ -11,7 +12,7 @@ use Rattle.model.specs.Splitting.{extended, is_wrapped, Changed, wrap_lookup}
 use Rattle.model.specs.Sound.{GoodLookup, Good}
 use Rattle.model.specs.NumberingLaws.{up_from, Wraps, Wrapped, WrapsAsBilled}
 use Rattle.model.specs.CuttingLaws.{bytes_of}
-use Rattle.model.proofs.Lists.{nth_set_same, some_same}
+use Rattle.model.proofs.Lists.{nth_set_same}
 use Rattle.model.proofs.NumberSums.{tally, tally_sum, tally_up, tally_up_ones}
 use Rattle.model.proofs.NumberWeights.{Weights, of_subtable, extended_weigh}
 use Rattle.model.proofs.NumberWalks.{vertex_weights, link_weights, byte_weights, lookup_vertices, lookup_links, lookup_bytes_lem, walk_in_place}
@@ -27,7 +28,7 @@ pub wraps_to : (P : Lookup → Changed → Type 0) (m : Model) (n : ℕ) (l afte
 wraps_to P m n l after c s h =
     let k = wrap_is s.caps m n c l s.was s.accepted in
     let new = wrap_lookup m.taken.vertices l in
-    let f : new ≡ after = some_same (sym (nth_set_same m.lookups n l new s.was) ∙ ap (λ (x : Changed). nth x.model.lookups n) k.1 ∙ s.is) in
+    let f : new ≡ after = same_Some _ _ (sym (nth_set_same m.lookups n l new s.was) ∙ ap (λ (x : Changed). nth x.model.lookups n) k.1 ∙ s.is) in
     subst (λ (x : Lookup). P x c) f (subst (λ (x : Changed). P new x) k.1 (h k.0))
 
 -- EXTENSION TABLES

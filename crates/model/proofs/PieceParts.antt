@@ -3,6 +3,7 @@ use Rattle.std.proofs.Common.{◌≡◌, ℕ, zero, suc, ◌+◌, ◌<◌, ◌�
 use Rattle.std.specs.List.{flat_map}
 use Rattle.std.proofs.lemmas.List.{append-nil}
 use Rattle.std.proofs.lemmas.Bool.{cond_both, both_ways, or_parts, and_parts, not-true}
+use Rattle.std.proofs.lemmas.Option.{same_Some}
 use Rattle.model.specs.Forest.{LigatureSet, Subtable}
 use Rattle.model.specs.Rules.{nth}
 use Rattle.model.specs.Cutting.{Entry, entries, nth_part}
@@ -12,14 +13,14 @@ use Rattle.model.specs.PieceLaws.{held, gathered, IsPart, Original, PartByPart, 
 use Rattle.model.proofs.PartsGroups.{order_entries, order_parts, groups_flat, groups_entries}
 use Rattle.model.proofs.NumberEntries.{itself, parts_divide}
 use Rattle.words.proofs.Saying.{none_some}
-use Rattle.model.proofs.Lists.{some_same, all-nth}
+use Rattle.model.proofs.Lists.{all-nth}
 use Rattle.model.proofs.KeepGlyphs.{glyphs_of_sets}
 use Rattle.model.proofs.KeepSizes.{length-divided}
 
 -- PARTS BY NUMBER
 nth_part_lem : (ps : List (List Entry)) (k : ℕ) (p : List Entry) → nth ps k ≡ Some p → nth_part ps k ≡ p
 nth_part_lem [] k p e = absurd (none_some e)
-nth_part_lem (q ∷ ps) zero p e = some_same {x = q} {y = p} e
+nth_part_lem (q ∷ ps) zero p e = same_Some q p e
 nth_part_lem (q ∷ ps) (suc k) p e = nth_part_lem ps k p e
 
 both_true : (a b : Bool) → (not a && not b) ≡ true → (a ≡ false) × (b ≡ false)
@@ -54,7 +55,7 @@ behind_all_lem wrote kept fresh (q ∷ later) zero p d e f =
     record {
       at = fresh + 2;
       free = omega arith;
-      sets = ap (λ (x : Subtable). x.sets) (sym (some_same {x = here} {y = d} f)) ∙ ap (λ (x : List Entry). sets_of (comes_here kept later) (fresh + 2) (groups x)) (some_same {x = q} {y = p} e);
+      sets = ap (λ (x : Subtable). x.sets) (sym (same_Some here d f)) ∙ ap (λ (x : List Entry). sets_of (comes_here kept later) (fresh + 2) (groups x)) (same_Some q p e);
     }
 behind_all_lem wrote kept fresh (q ∷ later) (suc k) p d e f =
     let b = behind_all_lem wrote kept (fresh + 2 + new_sets (comes_here kept later) (groups q)) later k p d e f in
@@ -69,7 +70,7 @@ record Bare (ss : List Subtable) (k : ℕ) (d : Subtable) : Type 0 where
 bare_of : (e : ℕ) (ss : List Subtable) (k : ℕ) (d : Subtable) → nth (extended e ss) k ≡ Some d → Bare ss k d
 bare_of e [] k d f = absurd (none_some f)
 bare_of e (s ∷ ss) zero d f =
-    record { bare = s; is = refl; sets = ap (λ (x : Subtable). x.sets) (sym (some_same {x = record { extension = Some e; vertex = s.vertex; coverage = s.coverage; covering = s.covering; sets = s.sets }} {y = d} f)) }
+    record { bare = s; is = refl; sets = ap (λ (x : Subtable). x.sets) (sym (same_Some (record { extension = Some e; vertex = s.vertex; coverage = s.coverage; covering = s.covering; sets = s.sets }) d f)) }
 bare_of e (s ∷ ss) (suc k) d f = let b = bare_of (suc e) ss k d f in record { bare = b.bare; is = b.is; sets = b.sets }
 
 behind_either : (wrapped : Bool) (wrote : ℕ → List ℕ) (kept : List Entry) (fresh e : ℕ) (later : List (List Entry)) (k : ℕ) (p : List Entry) (d : Subtable)
@@ -131,22 +132,22 @@ module _ (wrapped : Bool) (wrote : ℕ → List ℕ) (fresh : ℕ) (s : Subtable
   pub piece_of : (kept : List Entry) (later : List (List Entry)) → kept ++ flat_map itself later ≡ entries s
       → (k : ℕ) (p : List Entry) (d : Subtable) → nth (kept ∷ later) k ≡ Some p → nth (divided wrapped wrote fresh s (kept ∷ later)) k ≡ Some d → Piece fresh (kept ∷ later) k p d
   piece_of kept [] w zero p d e f =
-      let q = some_same {x = kept} {y = p} e in
+      let q = same_Some kept p e in
       first_piece fresh kept [] p d q
-      (ap (λ (x : Subtable). x.sets) (sym (some_same {x = s} {y = d} f))
+      (ap (λ (x : Subtable). x.sets) (sym (same_Some s d f))
       ∙ sym (own_sets 0 s.sets)
       ∙ ap (sets_of (λ k. true) 0) (sym (groups_entries s filled) ∙ ap groups (sym w ∙ append-nil kept ∙ q)))
   piece_of kept [] w (suc k) p d e f = absurd (none_some e)
   piece_of kept (q ∷ later) w zero p d e f =
-      let r = some_same {x = kept} {y = p} e in
+      let r = same_Some kept p e in
       first_piece fresh kept (q ∷ later) p d r
-      (ap (λ (x : Subtable). x.sets) (sym (some_same f)) ∙ ap (λ (x : List Entry). sets_of (λ k. true) 0 (groups x)) r)
+      (ap (λ (x : Subtable). x.sets) (sym (same_Some _ _ f)) ∙ ap (λ (x : List Entry). sets_of (λ k. true) 0 (groups x)) r)
   piece_of kept (q ∷ later) w (suc k) p d e f =
       later_piece fresh kept (q ∷ later) k p d e (behind_either wrapped wrote kept fresh (after_pieces kept fresh (q ∷ later)) (q ∷ later) k p d e f)
 
   original_of : (kept : List Entry) (later : List (List Entry)) (d : Subtable) → nth (divided wrapped wrote fresh s (kept ∷ later)) 0 ≡ Some d → Original s d
-  original_of kept [] d f = subst (Original s) (some_same {x = s} {y = d} f) (record { extension = refl; vertex = refl; coverage = refl })
-  original_of kept (q ∷ later) d f = subst (Original s) (some_same f) (record { extension = refl; vertex = refl; coverage = refl })
+  original_of kept [] d f = subst (Original s) (same_Some s d f) (record { extension = refl; vertex = refl; coverage = refl })
+  original_of kept (q ∷ later) d f = subst (Original s) (same_Some _ _ f) (record { extension = refl; vertex = refl; coverage = refl })
 
 -- SETS AND GROUPS
 flat_sets : (own : ℕ → Bool) (at : ℕ) (us : List Group)

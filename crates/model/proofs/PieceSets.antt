@@ -2,6 +2,7 @@
 use Rattle.std.proofs.Common.{◌≡◌, ℕ, zero, suc, ◌+◌, ◌<◌, ◌≤◌, Bool, true, false, ◌||◌, eqb, ◌⊎◌, List, [], ◌∷◌, ◌++◌, length, Some, sym, refl, ap, ◌∙◌, subst, inl, inr, ⊎_elim, arith}
 use Rattle.std.specs.List.{flat_map, AllByRecursion}
 use Rattle.std.proofs.lemmas.Bool.{cases_Bool, cases_lt, cond_both, both_ways, eq-eqb, eqb-true, or_right, or_cases}
+use Rattle.std.proofs.lemmas.Option.{same_Some}
 use Rattle.model.specs.Forest.{Ligature, LigatureSet, Subtable}
 use Rattle.model.specs.Rules.{nth}
 use Rattle.model.specs.Cutting.{Entry, entries_from, sets_from, entries, nth_part}
@@ -12,7 +13,7 @@ use Rattle.model.proofs.PartsGroups.{entries_stand}
 use Rattle.model.proofs.NumberEntries.{itself, parts_divide, has-append, any_joined}
 use Rattle.model.proofs.LoadLists.{nth_below, nth_there}
 use Rattle.words.proofs.Saying.{none_some}
-use Rattle.model.proofs.Lists.{some_same, all-nth}
+use Rattle.model.proofs.Lists.{all-nth}
 use Rattle.model.proofs.KeepParts.{all_whole}
 use Rattle.model.proofs.KeepSizes.{join_all, length-divided, length_sets_of}
 use Rattle.model.proofs.PieceParts.{Piece, piece_of, none_from}
@@ -58,8 +59,8 @@ set_at own at [] j t e = absurd (none_some e)
 set_at own at (u ∷ us) zero t e =
     cond_both (own u.set) (own_set u ∷ sets_of own at us) (new_set at u ∷ sets_of own (suc at) us)
     (λ (xs : List LigatureSet). nth xs 0 ≡ Some t → SetAt own at (u ∷ us) 0 t)
-    (λ y f. subst (SetAt own at (u ∷ us) 0) (some_same {x = own_set u} {y = t} f) (record { group = u; of = refl; first = refl; ligatures = refl; mine = λ z. refl; new = λ n. absurd (both_ways (own u.set) n y) }))
-    (λ n f. subst (SetAt own at (u ∷ us) 0) (some_same {x = new_set at u} {y = t} f) (record { group = u; of = refl; first = refl; ligatures = refl; mine = λ y. absurd (both_ways (own u.set) n y); new = λ z. omega arith }))
+    (λ y f. subst (SetAt own at (u ∷ us) 0) (same_Some (own_set u) t f) (record { group = u; of = refl; first = refl; ligatures = refl; mine = λ z. refl; new = λ n. absurd (both_ways (own u.set) n y) }))
+    (λ n f. subst (SetAt own at (u ∷ us) 0) (same_Some (new_set at u) t f) (record { group = u; of = refl; first = refl; ligatures = refl; mine = λ y. absurd (both_ways (own u.set) n y); new = λ z. omega arith }))
     e
 set_at own at (u ∷ us) (suc j) t e =
     cond_both (own u.set) (own_set u ∷ sets_of own at us) (new_set at u ∷ sets_of own (suc at) us)
@@ -242,9 +243,9 @@ module _ (wrapped : Bool) (wrote : ℕ → List ℕ) (fresh : ℕ) (s : Subtable
       let t : LigatureSet = v.0 in
       let there : nth d.sets g.place ≡ Some t = ap (λ (us : List LigatureSet). nth us g.place) b.sets ∙ v.1 in
       let z = settle k p d at is g.place t there in
-      let same : z.group ≡ g.group = some_same {x = z.group} {y = g.group} (sym z.of ∙ g.of) in
+      let same : z.group ≡ g.group = same_Some z.group g.group (sym z.of ∙ g.of) in
       let index : z.group.set ≡ i = ap (λ (u : Group). u.set) same ∙ g.index in
-      let all : z.whole ≡ whole = some_same {x = z.whole} {y = whole} (sym z.from ∙ ap (nth s.sets) index ∙ e) in
+      let all : z.whole ≡ whole = same_Some z.whole whole (sym z.from ∙ ap (nth s.sets) index ∙ e) in
       record {
         piece = k;
         home = h.home;

@@ -1,11 +1,12 @@
 -- A rule's answer points to a ligature of the subtable with the index answered.
 use Rattle.std.proofs.Common.{◌≡◌, ℕ, suc, ◌+◌, List, [], ◌∷◌, Some, None, Ok, Option, sym, refl, ap, ◌∙◌, subst, ⊎_elim, arith}
 use Rattle.std.specs.List.{flat_map}
+use Rattle.std.proofs.lemmas.Option.{none-some}
+use Rattle.model.proofs.LoadLists.{nth_mapped}
 use Rattle.model.specs.Forest.{Ligature, LigatureSet, Subtable, Lookup}
 use Rattle.model.specs.Rules.{Sourced, sourced, sourced_set, sourced_from, sourced_rules, told, rule_in, nth}
 use Rattle.model.specs.ShapingLaws.{RulesStandWhereTold}
-use Rattle.model.proofs.Lists.{err_ok}
-use Rattle.model.proofs.Sources.{in_either, in_map, nowhere}
+use Rattle.model.proofs.Sources.{in_either}
 
 -- in one of some sets
 record InSets (n : ℕ) (ts : List LigatureSet) (x : Sourced) : Type 0 where
@@ -16,10 +17,10 @@ record InSets (n : ℕ) (ts : List LigatureSet) (x : Sourced) : Type 0 where
   is : x ≡ sourced n set.first ligature
 
 in_sets : (n : ℕ) (ts : List LigatureSet) (k : ℕ) (x : Sourced) → nth (flat_map (sourced_set n) ts) k ≡ Some x → InSets n ts x
-in_sets n [] k x e = nowhere x e
+in_sets n [] k x e = absurd (none-some x e)
 in_sets n (t ∷ ts) k x e =
     ⊎_elim
-    (λ h. let m = in_map (sourced n t.first) t.ligatures h.0 x h.1 in record { set = t; set_at = (0, refl); ligature = m.0; ligature_at = (h.0, m.1); is = m.2 })
+    (λ h. let m = nth_mapped (sourced n t.first) t.ligatures h.0 x h.1 in record { set = t; set_at = (0, refl); ligature = m.0; ligature_at = (h.0, m.1); is = sym m.2 })
     (λ h. let r = in_sets n ts h.0 x h.1 in record { set = r.set; set_at = (suc r.set_at.0, r.set_at.1); ligature = r.ligature; ligature_at = r.ligature_at; is = r.is })
     (in_either (sourced_set n t) (flat_map (sourced_set n) ts) k x e)
 
@@ -31,7 +32,7 @@ record InSubtables (n : ℕ) (ss : List Subtable) (x : Sourced) : Type 0 where
   sets : InSets (n + at) subtable.sets x
 
 in_subtables : (n : ℕ) (ss : List Subtable) (k : ℕ) (x : Sourced) → nth (sourced_from n ss) k ≡ Some x → InSubtables n ss x
-in_subtables n [] k x e = nowhere x e
+in_subtables n [] k x e = absurd (none-some x e)
 in_subtables n (s ∷ ss) k x e =
     ⊎_elim
     (λ h. record { at = 0; subtable = s; there = refl; sets = subst (λ i. InSets i s.sets x) (let z : n ≡ n + 0 = omega arith in z) (in_sets n s.sets h.0 x h.1) })
@@ -39,7 +40,7 @@ in_subtables n (s ∷ ss) k x e =
     (in_either (flat_map (sourced_set n) s.sets) (sourced_from (suc n) ss) k x e)
 
 told_some : (o : Option Sourced) (x : Sourced) → told o ≡ Ok x → o ≡ Some x
-told_some None x e = absurd (err_ok e)
+told_some None x e = cc
 told_some (Some y) x e = cc
 
 pub rules_stand_where_told_lem : RulesStandWhereTold

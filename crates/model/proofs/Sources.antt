@@ -1,7 +1,9 @@
 -- Where a rule comes from: its ligature's table stands in the walk, and its bytes are those of its vertex.
-use Rattle.std.proofs.Common.{◌≡◌, ℕ, zero, suc, ◌<◌, cond, eqb, ◌⊎◌, List, [], ◌∷◌, ◌++◌, map, Some, None, Option, sym, refl, ap, ◌∙◌, subst, inl, inr, ⊎_elim, arith}
+use Rattle.std.proofs.Common.{◌≡◌, ℕ, zero, suc, ◌<◌, cond, eqb, ◌⊎◌, List, [], ◌∷◌, ◌++◌, map, Some, sym, ap, ◌∙◌, subst, inl, inr, ⊎_elim, arith}
 use Rattle.std.proofs.lemmas.Bool.{eq-eqb, ne_eqb, cond-true, cond-false}
 use Rattle.std.specs.List.{flat_map}
+use Rattle.std.proofs.lemmas.Option.{none-some, same_Some}
+use Rattle.model.proofs.LoadLists.{nth-map, nth_mapped}
 use Rattle.model.specs.Forest.{Ligature, LigatureSet, Subtable, Lookup, Model}
 use Rattle.model.specs.Tables.{Placed, vertex_of, count_of, ligature_table, set_walk, extension_walk, subtable_table, coverage_table, subtable_walk, lookup_walk, model_walk, bytes_at}
 use Rattle.model.specs.Rules.{Sourced, rule_of, sourced, sourced_set, sourced_from, sourced_rules, nth}
@@ -11,18 +13,12 @@ use Rattle.model.specs.Sound.{Distinct}
 abbrev pub In : {X : Type 0} → X → List X → Type 0
 In x xs = (i : ℕ) × (nth xs i ≡ Some x)
 
-some_same : {X : Type 0} (x y : X) → Some x ≡ Some y → x ≡ y
-some_same x y e = cc
-
-pub nowhere : {X Y : Type 0} (x : X) → ◌≡◌ {A = Option X} None (Some x) → Y
-nowhere x e = let z : ◌≡◌ {A = ℕ} 0 1 = cc in absurd (omega arith)
-
 in_behind : {X : Type 0} (xs ys : List X) (x : X) → In x ys → In x (xs ++ ys)
 in_behind [] ys x h = h
 in_behind (y ∷ xs) ys x h = let r = in_behind xs ys x h in (suc r.0, r.1)
 
 in_front : {X : Type 0} (xs ys : List X) (x : X) → In x xs → In x (xs ++ ys)
-in_front [] ys x h = nowhere x h.1
+in_front [] ys x h = absurd (none-some x h.1)
 in_front (y ∷ xs) ys x (zero, e) = (zero, e)
 in_front (y ∷ xs) ys x (suc i, e) = let r = in_front xs ys x (i, e) in (suc r.0, r.1)
 
@@ -31,16 +27,6 @@ pub in_either : {X : Type 0} (xs ys : List X) (k : ℕ) (x : X) → nth (xs ++ y
 in_either [] ys k x e = inr (k, e)
 in_either (y ∷ xs) ys zero x e = inl (zero, e)
 in_either (y ∷ xs) ys (suc k) x e = ⊎_elim (λ h. inl (suc h.0, h.1)) inr (in_either xs ys k x e)
-
-pub in_map : {X Y : Type 0} (f : X → Y) (xs : List X) (k : ℕ) (y : Y) → nth (map f xs) k ≡ Some y → (x : X) × (nth xs k ≡ Some x) × (y ≡ f x)
-in_map f [] k y e = nowhere y e
-in_map f (x ∷ xs) zero y e = (x, refl, sym (some_same (f x) y e))
-in_map f (x ∷ xs) (suc k) y e = in_map f xs k y e
-
-map_in : {X Y : Type 0} (f : X → Y) (xs : List X) (k : ℕ) (x : X) → nth xs k ≡ Some x → nth (map f xs) k ≡ Some (f x)
-map_in f [] k x e = nowhere x e
-map_in f (y ∷ xs) zero x e = ap (λ t. Some (f t)) (some_same y x e)
-map_in f (y ∷ xs) (suc k) x e = map_in f xs k x e
 
 -- a rule with its ligature, whose table is among some tables
 pub record Source (ps : List Placed) (x : Sourced) : Type 0 where
@@ -56,18 +42,18 @@ moved ps qs x f s = record { ligature = s.ligature; coverage = s.coverage; first
 
 source_set : (c n : ℕ) (t : LigatureSet) (k : ℕ) (x : Sourced) → nth (sourced_set n t) k ≡ Some x → Source (set_walk c t) x
 source_set c n t k x e =
-    let m = in_map (sourced n t.first) t.ligatures k x e in
+    let m = nth_mapped (sourced n t.first) t.ligatures k x e in
     record {
       ligature = m.0;
       coverage = c;
       first = t.first;
-      vertex = ap (λ (z : Sourced). z.vertex) m.2;
-      rule = ap (λ (z : Sourced). z.rule) m.2;
-      here = (suc k, map_in (ligature_table c) t.ligatures k m.0 m.1);
+      vertex = ap (λ (z : Sourced). z.vertex) (sym m.2);
+      rule = ap (λ (z : Sourced). z.rule) (sym m.2);
+      here = (suc k, nth-map (ligature_table c) t.ligatures k m.0 m.1);
     }
 
 source_sets : (c n : ℕ) (ts : List LigatureSet) (k : ℕ) (x : Sourced) → nth (flat_map (sourced_set n) ts) k ≡ Some x → Source (flat_map (set_walk c) ts) x
-source_sets c n [] k x e = nowhere x e
+source_sets c n [] k x e = absurd (none-some x e)
 source_sets c n (t ∷ ts) k x e =
     ⊎_elim
     (λ h. moved (set_walk c t) (flat_map (set_walk c) (t ∷ ts)) x (λ p. in_front (set_walk c t) (flat_map (set_walk c) ts) p) (source_set c n t h.0 x h.1))
@@ -81,7 +67,7 @@ source_subtable n s k x e =
     (source_sets s.coverage n s.sets k x e)
 
 source_subtables : (n : ℕ) (ss : List Subtable) (k : ℕ) (x : Sourced) → nth (sourced_from n ss) k ≡ Some x → Source (flat_map subtable_walk ss) x
-source_subtables n [] k x e = nowhere x e
+source_subtables n [] k x e = absurd (none-some x e)
 source_subtables n (s ∷ ss) k x e =
     ⊎_elim
     (λ h. moved (subtable_walk s) (flat_map subtable_walk (s ∷ ss)) x (λ p. in_front (subtable_walk s) (flat_map subtable_walk ss) p) (source_subtable n s h.0 x h.1))
@@ -89,8 +75,8 @@ source_subtables n (s ∷ ss) k x e =
     (in_either (flat_map (sourced_set n) s.sets) (sourced_from (suc n) ss) k x e)
 
 in_lookups : (ls : List Lookup) (n : ℕ) (l : Lookup) (p : Placed) → nth ls n ≡ Some l → In p (lookup_walk l) → In p (flat_map lookup_walk ls)
-in_lookups [] n l p e h = nowhere l e
-in_lookups (k ∷ ls) zero l p e h = in_front (lookup_walk k) (flat_map lookup_walk ls) p (subst (λ (z : Lookup). In p (lookup_walk z)) (sym (some_same k l e)) h)
+in_lookups [] n l p e h = absurd (none-some l e)
+in_lookups (k ∷ ls) zero l p e h = in_front (lookup_walk k) (flat_map lookup_walk ls) p (subst (λ (z : Lookup). In p (lookup_walk z)) (sym (same_Some k l e)) h)
 in_lookups (k ∷ ls) (suc n) l p e h = in_behind (lookup_walk k) (flat_map lookup_walk ls) p (in_lookups ls n l p e h)
 
 -- a rule of a lookup of a model
@@ -103,17 +89,17 @@ count_head v t = cond (eqb t v) 1 0
 
 -- no vertex twice: a table of the walk is the table of its vertex
 counted : (ps : List Placed) (i : ℕ) (p : Placed) → nth ps i ≡ Some p → 0 < count_of p.vertex (map vertex_of ps)
-counted [] i p e = nowhere p e
+counted [] i p e = absurd (none-some p e)
 counted (q ∷ ps) zero p e =
-    let same = ap (λ (z : Placed). z.vertex) (some_same q p e) in
+    let same = ap (λ (z : Placed). z.vertex) (same_Some q p e) in
     let b : count_head p.vertex q.vertex ≡ 1 = cond-true _ _ _ (eq-eqb q.vertex p.vertex same) in
     omega arith
 counted (q ∷ ps) (suc i) p e = let h = counted ps i p e in omega arith
 
 pub bytes_of : (ps : List Placed) (i : ℕ) (p : Placed) → Distinct (map vertex_of ps) → nth ps i ≡ Some p → bytes_at ps p.vertex ≡ Some p.table.bytes
-bytes_of [] i p d e = nowhere p e
+bytes_of [] i p d e = absurd (none-some p e)
 bytes_of (q ∷ ps) zero p d e =
-    let same = some_same q p e in
+    let same = same_Some q p e in
     cond-true _ _ _ (eq-eqb q.vertex p.vertex (ap (λ (z : Placed). z.vertex) same)) ∙ ap (λ (z : Placed). Some z.table.bytes) same
 bytes_of (q ∷ ps) (suc i) p d e =
     let c = counted ps i p e in
