@@ -5,7 +5,6 @@ use Rattle.std.specs.List.{flat_map, AllByRecursion}
 use Rattle.std.proofs.ByRecursion.{All-append}
 use Rattle.std.proofs.lemmas.Bool.{cases_eq, eq-eqb, ne_eqb, cond-true, cond-false}
 use Rattle.std.proofs.lemmas.Option.{same_Some}
-use Rattle.words.proofs.Saying.{none_some}
 use Rattle.model.specs.Rules.{nth}
 use Rattle.model.specs.Tables.{count_of}
 use Rattle.model.specs.Sound.{Distinct}
@@ -44,12 +43,12 @@ joined_all P f (x ∷ xs) h = (all_front P (f x) (flat_map f xs) h, joined_all P
 
 -- ELEMENTS BY NUMBER
 pub all-nth : {X : Type 0} (P : X → Type 0) (xs : List X) (n : ℕ) (x : X) → nth xs n ≡ Some x → AllByRecursion P xs → P x
-all-nth P [] n x e h = absurd (none_some e)
+all-nth P [] n x e h = cc
 all-nth P (y ∷ xs) zero x e h = subst P (same_Some _ _ e) h.0
 all-nth P (y ∷ xs) (suc n) x e h = all-nth P xs n x e h.1
 
 pub nth_set_same : {X : Type 0} (xs : List X) (n : ℕ) (x y : X) → nth xs n ≡ Some x → nth (set xs n y) n ≡ Some y
-nth_set_same [] n x y h = absurd (none_some h)
+nth_set_same [] n x y h = cc
 nth_set_same (w ∷ xs) zero x y h = refl
 nth_set_same (w ∷ xs) (suc n) x y h = nth_set_same xs n x y h
 

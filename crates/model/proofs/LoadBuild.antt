@@ -9,7 +9,6 @@ use Rattle.std.proofs.lemmas.List.Sorted.{IsPermutation-refl}
 use Rattle.std.proofs.lemmas.Bool.{cases_lt, eq-eqb, ne_eqb}
 use Rattle.refusals.specs.declared.Refusal.{Refusal}
 use Rattle.words.specs.Grammar.{StreamTable, Stream, FineTable, Uncounted}
-use Rattle.words.proofs.Saying.{none_some}
 use Rattle.data_bytes.specs.BigEndian.{Bytes}
 use Rattle.data_bytes.specs.Values.{value_bytes}
 use Rattle.coverage.specs.Meaning.{Meant}
@@ -45,7 +44,7 @@ build_two r q P (u ∷ us) (g ∷ gs) e f =
     (a.0 ∷ b.0, λ i. a.1 i ∷ b.1 i, λ i. a.2 i ∷ b.2 i, (a.3, b.3))
 
 slot_in : (p : ℕ) (us : List ℕ) (k u : ℕ) → nth us k ≡ Some u → (q : ℕ) × Has (slots_from p us) (slot q 2 u)
-slot_in p [] k u e = absurd (none_some e)
+slot_in p [] k u e = cc
 slot_in p (v ∷ us) zero u e = (p, nth-has (slots_from p (v ∷ us)) 0 (slot p 2 u) (ap (λ o. slotted o) e))
   where
     slotted : Option ℕ → Option Slot

@@ -1,12 +1,13 @@
 -- In a stream that is a model's tables every link is in place, and every vertex is entered once and reached.
-use Rattle.std.proofs.Common.{◌≡◌, ℕ, zero, suc, ◌+◌, ◌<◌, ◌≤◌, Bool, cond, eqb, List, [], ◌∷◌, ◌++◌, map, length, Some, None, sum_by, count_by, Option, sym, refl, ap, ◌∙◌, subst, ⊎_elim, arith}
+use Rattle.std.proofs.Common.{◌≡◌, ℕ, zero, suc, ◌+◌, ◌<◌, ◌≤◌, Bool, cond, eqb, List, [], ◌∷◌, ◌++◌, map, length, Some, None, sum_by, count_by, Option, sym, refl, ap, ◌∙◌, subst, ⊎_elim, arith, get_or}
 use Rattle.std.specs.List.{ContainsAt as Has, flat_map, AllByRecursion, range_with_len}
 use Rattle.std.proofs.lemmas.List.{map-append, length-map}
-use Rattle.std.proofs.lemmas.List.Sums.{sum_by-cons, sum_by-append}
+use Rattle.std.proofs.lemmas.List.Sums.{sum_by-cons, sum_by-append, sum_by-le}
 use Rattle.std.proofs.ByRecursion.{All-append, All-map, All-weaker, all-has, all_has_itself, all_shuffled, has_shuffled}
 use Rattle.std.proofs.lemmas.List.Sorted.{sum_by-IsPermutation}
 use Rattle.std.proofs.lemmas.Bool.{cases_eq, cases_lt}
 use Rattle.std.proofs.lemmas.Option.{same_Some}
+use Rattle.std.proofs.lemmas.List.FromFn.{length-range_with_len}
 use Rattle.words.specs.Grammar.{StreamTable, Stream}
 use Rattle.coverage.specs.Meaning.{Meant}
 use Rattle.model.specs.Forest.{Ligature, LigatureSet, Subtable, Lookup, Taken, Model}
@@ -36,7 +37,8 @@ sum_gap f a (suc n) u h l k e =
     let c = sum_by-cons f a (range_with_len (a + 1) n) in
     ⊎_elim
     (λ (at : a ≡ u).
-    let r = sum_most (a + 1) n in
+    let r = sum_by-le f 1 (range_with_len (a + 1) n) (λ i d j. h (get_or (range_with_len (a + 1) n) i d)) in
+    let s = length-range_with_len (a + 1) n in
     let z : f a ≡ 0 = ap f at ∙ e in
     omega arith)
     (λ (off : a ≡ u → ⊥).
@@ -44,10 +46,6 @@ sum_gap f a (suc n) u h l k e =
     let z = h a in
     omega arith)
     (cases_eq a u)
-  where
-    sum_most : (b m : ℕ) → sum_by f (range_with_len b m) ≤ m
-    sum_most b zero = omega arith
-    sum_most b (suc m) = let q = sum_by-cons f b (range_with_len (b + 1) m) in let r = sum_most (b + 1) m in let z = h b in omega arith
 
 pub counted_all : (n : ℕ) (vs : List ℕ) → AllByRecursion (λ v. v < n) vs → sum_by (λ v. count_of v vs) (range_with_len 0 n) ≡ length vs
 counted_all n [] h = sum_zero (λ v. 0) 0 n (λ v. refl)

@@ -4,7 +4,6 @@ use Rattle.std.specs.List.{ContainsAt as Has, AllByRecursion, range_with_len}
 use Rattle.std.proofs.lemmas.List.Sums.{sum_by-cons}
 use Rattle.std.proofs.lemmas.Bool.{cases_eq}
 use Rattle.std.proofs.lemmas.Option.{same_Some}
-use Rattle.words.proofs.Saying.{none_some}
 use Rattle.data_bytes.specs.BigEndian.{Bytes}
 use Rattle.data_bytes.specs.Values.{value_bytes, values}
 use Rattle.model.specs.Rules.{nth}
@@ -12,7 +11,7 @@ use Rattle.model.proofs.Lists.{one}
 
 -- ELEMENTS BY NUMBER
 pub nth_below : {X : Type 0} (xs : List X) (n : ℕ) (x : X) → nth xs n ≡ Some x → n < length xs
-nth_below [] n x e = absurd (none_some e)
+nth_below [] n x e = cc
 nth_below (y ∷ xs) zero x e = omega arith
 nth_below (y ∷ xs) (suc n) x e = let h = nth_below xs n x e in omega arith
 
@@ -20,17 +19,17 @@ pub nth-has : {X : Type 0} (xs : List X) (n : ℕ) (x : X) → nth xs n ≡ Some
 nth-has {X} xs n x e = (n, nth_below xs n x e, λ d. at xs n d e)
   where
     at : (ys : List X) (k : ℕ) (d : X) → nth ys k ≡ Some x → get_or ys k d ≡ x
-    at [] k d f = absurd (none_some f)
+    at [] k d f = cc
     at (y ∷ ys) zero d f = same_Some _ _ f
     at (y ∷ ys) (suc k) d f = at ys k d f
 
 pub nth-map : {X Y : Type 0} (f : X → Y) (xs : List X) (n : ℕ) (x : X) → nth xs n ≡ Some x → nth (map f xs) n ≡ Some (f x)
-nth-map f [] n x e = absurd (none_some e)
+nth-map f [] n x e = cc
 nth-map f (y ∷ xs) zero x e = ap (λ z. Some (f z)) (same_Some _ _ e)
 nth-map f (y ∷ xs) (suc n) x e = nth-map f xs n x e
 
 pub nth_mapped : {X Y : Type 0} (f : X → Y) (xs : List X) (n : ℕ) (y : Y) → nth (map f xs) n ≡ Some y → (x : X) × (nth xs n ≡ Some x) × (f x ≡ y)
-nth_mapped f [] n y e = absurd (none_some e)
+nth_mapped f [] n y e = cc
 nth_mapped f (x ∷ xs) zero y e = (x, refl, same_Some _ _ e)
 nth_mapped f (x ∷ xs) (suc n) y e = nth_mapped f xs n y e
 

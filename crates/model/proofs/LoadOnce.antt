@@ -7,7 +7,6 @@ use Rattle.refusals.specs.declared.Pool.{Pool}
 use Rattle.refusals.specs.declared.Refusal.{Refusal}
 use Rattle.refusals.specs.declared.Refusal.TheVariants.{BadWord, NoRoom, BadLink, BadEntry}
 use Rattle.words.specs.Grammar.{StreamTable, Stream, Spells, Misfit}
-use Rattle.words.proofs.Saying.{cons_nil}
 use Rattle.words.proofs.Whole.{streams_spell_lem, misfits_tell_lem}
 use Rattle.coverage.specs.Meaning.{Meant}
 use Rattle.model.specs.Forest.{Ligature, LigatureSet, Subtable, Lookup, Model}
@@ -34,8 +33,8 @@ module _ (s : Stream) where
   same_ligatures : (c d : ℕ) (gs hs : List Ligature) → map (λ (g : Ligature). g.vertex) gs ≡ map (λ (g : Ligature). g.vertex) hs
       → AllByRecursion (Holds s) (map (ligature_table c) gs) → AllByRecursion (Holds s) (map (ligature_table d) hs) → gs ≡ hs
   same_ligatures c d [] [] e a b = refl
-  same_ligatures c d [] (h ∷ hs) e a b = absurd (cons_nil (sym e))
-  same_ligatures c d (g ∷ gs) [] e a b = absurd (cons_nil e)
+  same_ligatures c d [] (h ∷ hs) e a b = cc
+  same_ligatures c d (g ∷ gs) [] e a b = cc
   same_ligatures c d (g ∷ gs) (h ∷ hs) e a b =
       let v : g.vertex ≡ h.vertex = cc in
       let t = both_spelt (ligature_table c g) (ligature_table d h) v a.0 b.0 in
@@ -47,8 +46,8 @@ module _ (s : Stream) where
   same_sets : (c d : ℕ) (ys zs : List LigatureSet) → map (λ (y : LigatureSet). y.vertex) ys ≡ map (λ (y : LigatureSet). y.vertex) zs → map (λ (y : LigatureSet). y.first) ys ≡ map (λ (y : LigatureSet). y.first) zs
       → AllByRecursion (λ y. AllByRecursion (Holds s) (set_walk c y)) ys → AllByRecursion (λ y. AllByRecursion (Holds s) (set_walk d y)) zs → ys ≡ zs
   same_sets c d [] [] e f a b = refl
-  same_sets c d [] (z ∷ zs) e f a b = absurd (cons_nil (sym e))
-  same_sets c d (y ∷ ys) [] e f a b = absurd (cons_nil e)
+  same_sets c d [] (z ∷ zs) e f a b = cc
+  same_sets c d (y ∷ ys) [] e f a b = cc
   same_sets c d (y ∷ ys) (z ∷ zs) e f a b =
       let v : y.vertex ≡ z.vertex = cc in
       let w : y.first ≡ z.first = cc in
@@ -87,8 +86,8 @@ module _ (s : Stream) where
     same_subtables : (w : Bool) (xs ys : List Subtable) → Wrapped w xs → Wrapped w ys → map (λ (x : Subtable). head x) xs ≡ map (λ (x : Subtable). head x) ys
         → AllByRecursion (λ x. AllByRecursion (Holds s) (subtable_walk x)) xs → AllByRecursion (λ x. AllByRecursion (Holds s) (subtable_walk x)) ys → AllByRecursion (GoodSubtable meaning) xs → AllByRecursion (GoodSubtable meaning) ys → xs ≡ ys
     same_subtables w [] [] p q e a b g k = refl
-    same_subtables w [] (y ∷ ys) p q e a b g k = absurd (cons_nil (sym e))
-    same_subtables w (x ∷ xs) [] p q e a b g k = absurd (cons_nil e)
+    same_subtables w [] (y ∷ ys) p q e a b g k = cc
+    same_subtables w (x ∷ xs) [] p q e a b g k = cc
     same_subtables w (x ∷ xs) (y ∷ ys) p q e a b g k =
         let v : head x ≡ head y = cc in
         let same = same_subtable w x y p.0 q.0 v a.0 b.0 g.0 k.0 in
@@ -117,8 +116,8 @@ module _ (s : Stream) where
     same_lookups : (ls ks : List Lookup) → map (λ (l : Lookup). l.vertex) ls ≡ map (λ (l : Lookup). l.vertex) ks → AllByRecursion (λ l. AllByRecursion (Holds s) (lookup_walk l)) ls → AllByRecursion (λ l. AllByRecursion (Holds s) (lookup_walk l)) ks
         → AllByRecursion (GoodLookup meaning) ls → AllByRecursion (GoodLookup meaning) ks → ls ≡ ks
     same_lookups [] [] e a b g j = refl
-    same_lookups [] (k ∷ ks) e a b g j = absurd (cons_nil (sym e))
-    same_lookups (l ∷ ls) [] e a b g j = absurd (cons_nil e)
+    same_lookups [] (k ∷ ks) e a b g j = cc
+    same_lookups (l ∷ ls) [] e a b g j = cc
     same_lookups (l ∷ ls) (k ∷ ks) e a b g j =
         let v : l.vertex ≡ k.vertex = cc in
         let same = same_lookup l k v a.0 b.0 g.0 j.0 in

@@ -1,12 +1,11 @@
 -- A table of the stream is the table of one lookup, subtable, set or ligature at most.
-use Rattle.std.proofs.Common.{◌≡◌, ℕ, zero, suc, ◌+◌, ◌<◌, ◌≤◌, ◌⊎◌, List, [], ◌∷◌, ◌++◌, map, length, get_or, Some, None, Option, sym, refl, ap, ◌∙◌, inl, inr, ⊎_elim, arith}
+use Rattle.std.proofs.Common.{◌≡◌, ℕ, zero, suc, ◌+◌, ◌<◌, ◌≤◌, ◌⊎◌, List, [], ◌∷◌, ◌++◌, map, length, get_or, Some, None, Option, sym, refl, ap, ◌∙◌, inl, inr, ⊎_elim, arith, drop}
 use Rattle.std.specs.List.{ContainsAt as Has, AllByRecursion}
 use Rattle.std.specs.Option.{option_to_list}
 use Rattle.std.proofs.lemmas.List.{append_cancel_left}
 use Rattle.std.proofs.ByRecursion.{all-has, has_shuffled}
 use Rattle.std.proofs.lemmas.List.Sorted.{IsPermutation-sym}
 use Rattle.words.specs.Grammar.{StreamTable}
-use Rattle.words.proofs.Saying.{cons_nil}
 use Rattle.data_bytes.specs.Values.{value_bytes, values}
 use Rattle.data_bytes.proofs.ValueLists.{values_value_bytes}
 use Rattle.model.specs.Forest.{Ligature, LigatureSet, Subtable, Lookup}
@@ -109,8 +108,8 @@ same_values us vs e = sym (values_value_bytes us) ∙ ap values e ∙ values_val
 
 list_mark : (a b : Option ℕ) → option_to_list a ≡ option_to_list b → a ≡ b
 list_mark None None e = refl
-list_mark None (Some y) e = absurd (cons_nil (sym e))
-list_mark (Some x) None e = absurd (cons_nil e)
+list_mark None (Some y) e = cc
+list_mark (Some x) None e = cc
 list_mark (Some x) (Some y) e = cc
 
 -- THE KINDS
@@ -136,27 +135,17 @@ lookup_same t l k x y =
       heads = same_targets 6 (heads l) (heads k) s.slots;
     }
 
-first_target : List Slot → ℕ
-first_target [] = 0
-first_target (l ∷ ls) = l.target
-
-slots_behind : List Slot → List Slot
-slots_behind [] = []
-slots_behind (l ∷ ls) = ls
-
 pub extension_same : (t : StreamTable) (e f v w : ℕ) → Spelt t (extension_table e v).table → Spelt t (extension_table f w).table → v ≡ w
-unfolding first_target
-extension_same t e f v w x y = ap first_target (spelt_same t (extension_table e v).table (extension_table f w).table (omega arith, tt) (omega arith, tt) x y).slots
+extension_same t e f v w x y = ap (λ ls. get_or (map (λ (l : Slot). l.target) ls) 0 0) (spelt_same t (extension_table e v).table (extension_table f w).table (omega arith, tt) (omega arith, tt) x y).slots
 
 abbrev set_vertices : Subtable → List ℕ
 set_vertices s = map (λ (y : LigatureSet). y.vertex) s.sets
 
 pub subtable_same : (t : StreamTable) (s r : Subtable) → Spelt t (subtable_table s).table → Spelt t (subtable_table r).table
     → (s.coverage ≡ r.coverage) × (map (λ (y : LigatureSet). y.vertex) s.sets ≡ map (λ (y : LigatureSet). y.vertex) r.sets)
-unfolding first_target slots_behind
 subtable_same t s r x y =
     let e = (spelt_same t (subtable_table s).table (subtable_table r).table (omega arith, up_from 6 3 (set_vertices s) (omega arith)) (omega arith, up_from 6 3 (set_vertices r) (omega arith)) x y).slots in
-    (ap first_target e, same_targets 6 (set_vertices s) (set_vertices r) (ap slots_behind e))
+    (ap (λ ls. get_or (map (λ (l : Slot). l.target) ls) 0 0) e, same_targets 6 (set_vertices s) (set_vertices r) (ap (drop 1) e))
 
 abbrev ligature_vertices : LigatureSet → List ℕ
 ligature_vertices y = map (λ (g : Ligature). g.vertex) y.ligatures

@@ -2,10 +2,11 @@
 use Rattle.std.proofs.Common.{◌≡◌, ℕ, suc, ◌≤◌, Bool, true, false, cond, leb, ◌⊎◌, List, [], ◌∷◌, ◌++◌, map, length, get_or, drop, is_some, Some, None, count_by, Option, sym, refl, ap, ◌∙◌, subst, inl, inr, ⊎_elim, arith}
 use Rattle.std.specs.List.Sorted.{IsPermutation}
 use Rattle.std.specs.Option.{option_to_list}
-use Rattle.std.proofs.lemmas.List.{length-map, length-replicate, get_or_at}
+use Rattle.std.proofs.lemmas.List.{length-map, length-replicate, get_or_at, map-id}
 use Rattle.std.proofs.lemmas.List.Sorted.{IsPermutation-refl, IsPermutation-sym, IsPermutation-cons, IsPermutation-swap, IsPermutation-trans, sum_by-IsPermutation}
 use Rattle.std.proofs.ByRecursion.{has_shuffled}
 use Rattle.std.proofs.lemmas.Bool.{cases_eq, cond_both, leb-true, leb-false, cases_lt, both_ways}
+use Rattle.std.proofs.lemmas.Simd.{map-map}
 use Rattle.words.specs.Grammar.{StreamTable}
 use Rattle.words.proofs.Saying.{cons_nil}
 use Rattle.data_bytes.specs.Values.{value_bytes}
@@ -151,8 +152,7 @@ abbrev bare_ligature : ℕ → Ligature
 bare_ligature v = record { vertex = v; glyph = 0; components = [] }
 
 map_back : {X : Type 0} (r : X → ℕ) (f : ℕ → X) → ((v : ℕ) → r (f v) ≡ v) → (vs : List ℕ) → map r (map f vs) ≡ vs
-map_back r f h [] = refl
-map_back r f h (v ∷ vs) = ap (λ z. z ∷ map r (map f vs)) (h v) ∙ ap (λ z. v ∷ z) (map_back r f h vs)
+map_back r f h vs = map-map r f vs ∙ (λ i. map (λ v. h v i) vs) ∙ map-id vs
 
 abbrev mark_read : Bool → ℕ → Option ℕ
 mark_read true v = Some v
@@ -167,14 +167,6 @@ mark_read_lem true None v k e f = absurd (both_ways false refl e)
 mark_read_lem false None v k e f = refl
 mark_read_lem true (Some x) v k e f = ap Some (sym (f ∙ get_or_at (zeros k) x [] 0 k (length-replicate k 0)))
 mark_read_lem false (Some x) v k e f = absurd (both_ways true e refl)
-
-first_of : List Slot → ℕ
-first_of [] = 0
-first_of (l ∷ ls) = l.target
-
-behind : List Slot → List Slot
-behind [] = []
-behind (l ∷ ls) = ls
 
 -- one candidate is enough
 settled_by : {A : Type 0} (P : A → Type 0) (a : A) → Settled (P a) → ((b : A) → P b → P a) → Settled ((b : A) × P b)
@@ -239,23 +231,21 @@ module _ (t : StreamTable) (apart : (p : ℕ) → count_by (at_position p) (slot
           (settled_both ((value_at t 0 ≡ 4) ⊎ (value_at t 0 ≡ 7)) (Spelt t (lookup_table lookup_read).table) either (spelt_settled (lookup_table lookup_read).table (up_from 6 0 (heads_of lookup_read) (omega arith))))
 
   -- EXTENSION TABLES
-  extension_only : (v : ℕ) → ExtensionShape t v → ExtensionShape t (first_of ordered)
-  unfolding first_of
-  extension_only v h = subst (ExtensionShape t) (ap first_of (slots_are (extension_table 0 v).table (omega arith, tt) h)) h
+  extension_only : (v : ℕ) → ExtensionShape t v → ExtensionShape t (get_or aims 0 0)
+  extension_only v h = subst (ExtensionShape t) (ap (λ ls. get_or (map (λ (l : Slot). l.target) ls) 0 0) (slots_are (extension_table 0 v).table (omega arith, tt) h)) h
 
   extension_settled : Settled ((v : ℕ) × ExtensionShape t v)
-  extension_settled = settled_by (ExtensionShape t) (first_of ordered) (spelt_settled (extension_table 0 (first_of ordered)).table (omega arith, tt)) extension_only
+  extension_settled = settled_by (ExtensionShape t) (get_or aims 0 0) (spelt_settled (extension_table 0 (get_or aims 0 0)).table (omega arith, tt)) extension_only
 
   -- SUBTABLES
   abbrev subtable_read : Subtable
-  subtable_read = record { extension = None; vertex = 0; coverage = first_of ordered; covering = []; sets = map bare_set (map (λ (l : Slot). l.target) (behind ordered)) }
+  subtable_read = record { extension = None; vertex = 0; coverage = get_or aims 0 0; covering = []; sets = map bare_set (drop 1 aims) }
 
   subtable_only : (x : Subtable) → SubtableShape t x → SubtableShape t subtable_read
-  unfolding first_of behind
   subtable_only x h =
-      let e : slot 2 2 x.coverage ∷ slots_from 6 (sets_of x) ≡ ordered = slots_are (subtable_table x).table (omega arith, up_from 6 3 (sets_of x) (omega arith)) h in
-      let us : sets_of x ≡ map (λ (l : Slot). l.target) (behind ordered) = sym (targets_from 6 (sets_of x)) ∙ ap (λ ls. map (λ (l : Slot). l.target) (behind ls)) e in
-      subst (Spelt t) (subtable_eq x subtable_read (ap first_of e) (us ∙ sym (map_back (λ (y : LigatureSet). y.vertex) bare_set (λ v. refl) (map (λ (l : Slot). l.target) (behind ordered))))) h
+      let e : x.coverage ∷ map (λ (l : Slot). l.target) (slots_from 6 (sets_of x)) ≡ aims = ap (map (λ (l : Slot). l.target)) (slots_are (subtable_table x).table (omega arith, up_from 6 3 (sets_of x) (omega arith)) h) in
+      let us : sets_of x ≡ drop 1 aims = sym (targets_from 6 (sets_of x)) ∙ ap (drop 1) e in
+      subst (Spelt t) (subtable_eq x subtable_read (ap (λ vs. get_or vs 0 0) e) (us ∙ sym (map_back (λ (y : LigatureSet). y.vertex) bare_set (λ v. refl) (drop 1 aims)))) h
 
   subtable_settled : Settled ((x : Subtable) × SubtableShape t x)
   subtable_settled = settled_by (SubtableShape t) subtable_read (spelt_settled (subtable_table subtable_read).table (omega arith, up_from 6 3 (sets_of subtable_read) (omega arith))) subtable_only

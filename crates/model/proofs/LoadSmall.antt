@@ -5,7 +5,6 @@ use Rattle.std.proofs.lemmas.Option.{same_Some}
 use Rattle.refusals.specs.declared.Pool.TheVariants.{Vertices, Links, Bytes as Bytes'}
 use Rattle.refusals.specs.declared.Refusal.TheVariants.{BadShape}
 use Rattle.words.specs.Grammar.{StreamLink, virtual, StreamTable, Stream}
-use Rattle.words.proofs.Saying.{none_some}
 use Rattle.words.proofs.Whole.{streams_spell_lem}
 use Rattle.coverage.specs.Meaning.{Meant}
 use Rattle.model.specs.Forest.{Taken}
@@ -35,7 +34,7 @@ roomy caps n a b =
 
 only_table : (ls : List StreamLink) (rs : List ℕ) (v : ℕ) (t : StreamTable) → TableAt (empty_stream ls rs) v t → (v ≡ 0) × (t ≡ empty_table ls)
 only_table ls rs zero t e = (refl, sym (same_Some _ _ e))
-only_table ls rs (suc v) t e = absurd (none_some e)
+only_table ls rs (suc v) t e = cc
 
 not_loose : (rs : List ℕ) → Never (Loosely (empty_stream [] rs))
 not_loose rs v x = by (subst (Loose (empty_stream [] rs)) (only_table [] rs v x.0 x.1).1 x.2)

@@ -1,9 +1,10 @@
 -- What is asked of a stream can be settled: loose links, reached vertices, strays; and the lowest vertex of a kind can be found.
-use Rattle.std.proofs.Common.{◌≡◌, ℕ, zero, suc, ◌+◌, ◌<◌, ◌≤◌, ◌⊎◌, List, [], ◌∷◌, ◌++◌, map, length, Some, None, sum_by, count_by, Option, sym, refl, ap, ◌∙◌, subst, inl, inr, ⊎_elim, arith}
+use Rattle.std.proofs.Common.{◌≡◌, ℕ, zero, suc, ◌+◌, ◌<◌, ◌≤◌, ◌⊎◌, List, [], ◌∷◌, ◌++◌, map, length, Some, None, count_by, Option, sym, refl, ap, ◌∙◌, subst, inl, inr, ⊎_elim, arith, get_or}
 use Rattle.std.specs.List.{ContainsAt as Has, flat_map, AllByRecursion, range_with_len}
-use Rattle.std.proofs.lemmas.List.Sums.{sum_by-cons}
+use Rattle.std.proofs.lemmas.List.Sums.{sum_by-le}
 use Rattle.std.proofs.ByRecursion.{has_append_left, has_append_right, all-has, has_append_cases}
 use Rattle.std.proofs.lemmas.Bool.{cases_eq, cases_lt}
+use Rattle.std.proofs.lemmas.List.FromFn.{length-range_with_len}
 use Rattle.words.specs.Grammar.{StreamTable, Stream}
 use Rattle.words.proofs.Saying.{none_some}
 use Rattle.model.specs.Tables.{Slot, count_of}
@@ -147,12 +148,9 @@ map-has f (z ∷ xs) y h = ⊎_elim (λ e. (z, has_first z xs, e)) (λ i. let r 
 short_distinct : (n : ℕ) (vs : List ℕ) → Distinct vs → AllByRecursion (λ v. v < n) vs → length vs ≤ n
 short_distinct n vs d b =
     let c = counted_all n vs b in
-    let m = most 0 n in
+    let m = sum_by-le (λ v. count_of v vs) 1 (range_with_len 0 n) (λ i e j. distinct_count vs d (get_or (range_with_len 0 n) i e)) in
+    let k = length-range_with_len 0 n in
     omega arith
-  where
-    most : (a k : ℕ) → sum_by (λ v. count_of v vs) (range_with_len a k) ≤ k
-    most a zero = omega arith
-    most a (suc k) = let q = sum_by-cons (λ v. count_of v vs) a (range_with_len (a + 1) k) in let r = most (a + 1) k in let o = distinct_count vs d a in omega arith
 
 abbrev next_of : Option StreamTable → List ℕ
 next_of None = []

@@ -10,7 +10,6 @@ use Rattle.refusals.specs.declared.Refusal.{Refusal}
 use Rattle.refusals.specs.declared.Refusal.TheVariants.{BadWord, NoRoom, BadLink, BadEntry}
 use Rattle.words.specs.Grammar.{StreamTable, Stream, Spells}
 use Rattle.words.specs.Reading.{links_in, parse}
-use Rattle.words.proofs.Saying.{none_some}
 use Rattle.words.proofs.Whole.{streams_spell_lem, misfits_tell_lem}
 use Rattle.coverage.specs.Meaning.{Meant}
 use Rattle.model.specs.Forest.{Ligature, LigatureSet, Subtable, Lookup, Model}
@@ -148,7 +147,7 @@ module _ (b : ℕ) where
 
 -- WHAT STANDS IS WITHIN: no number reaches the number of roots and links
 links_least : (ts : List StreamTable) (v : ℕ) (t : StreamTable) → nth ts v ≡ Some t → length t.links ≤ links_in ts
-links_least [] v t e = absurd (none_some e)
+links_least [] v t e = cc
 links_least (u ∷ ts) zero t e = let z : length u.links ≡ length t.links = ap (λ o. count o) e in omega arith
   where
     count : Option StreamTable → ℕ

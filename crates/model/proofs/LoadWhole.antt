@@ -1,11 +1,12 @@
 -- A model that is read off a stream's tables, of good lookups at the roots, is loaded from it if no vertex strays: each table of the stream stands in it just once.
-use Rattle.std.proofs.Common.{◌≡◌, ℕ, zero, suc, ◌+◌, ◌*◌, ◌<◌, ◌≤◌, eqb, List, [], ◌∷◌, map, length, Some, None, sum_by, Option, sym, refl, ap, ◌∙◌, subst, ⊎_elim, add-mul, one-mul, mul-zero, zero-mul, mul-one, arith}
+use Rattle.std.proofs.Common.{◌≡◌, ℕ, zero, suc, ◌+◌, ◌*◌, ◌<◌, ◌≤◌, eqb, List, [], ◌∷◌, map, length, Some, None, sum_by, Option, sym, refl, ap, ◌∙◌, subst, ⊎_elim, add-mul, one-mul, mul-zero, zero-mul, mul-one, arith, get_or, ◌-◌}
 use Rattle.std.specs.List.{ContainsAt as Has, AllByRecursion, range_with_len}
 use Rattle.std.proofs.lemmas.List.{length-append, length-map}
-use Rattle.std.proofs.lemmas.List.Sums.{sum_by-cons}
+use Rattle.std.proofs.lemmas.List.Sums.{sum_by-cons, get_or-le-sum_by}
 use Rattle.std.proofs.ByRecursion.{All-map, All-weaker}
 use Rattle.std.proofs.lemmas.List.Sorted.{length_permutation}
 use Rattle.std.proofs.lemmas.Bool.{cases_eq, cases_lt}
+use Rattle.std.proofs.lemmas.List.FromFn.{length-range_with_len, get_or-range_with_len}
 use Rattle.words.specs.Grammar.{StreamLink, real, virtual, StreamTable, Stream}
 use Rattle.words.specs.Reading.{links_in, bytes_in}
 use Rattle.data_bytes.proofs.ValueLists.{length-value_bytes}
@@ -20,7 +21,6 @@ use Rattle.model.proofs.Lists.{one, one_same, one_other}
 use Rattle.model.proofs.LoadLists.{nth_below, sum_one, sum_zero}
 use Rattle.model.proofs.LoadSame.{has_none, has_cases}
 use Rattle.model.proofs.LoadFull.{into, shuffled_targets, sum_tables, sum_add, walk_once}
-use Rattle.model.proofs.NumberSums.{tally_sum, tally_same}
 
 -- MEMBERS COUNT
 pub has_count : (xs : List ℕ) (v : ℕ) → Has xs v → 0 < count_of v xs
@@ -59,13 +59,10 @@ module _ (x g : ℕ → ℕ) where
       omega arith
 
   term_le : (a n u : ℕ) → a ≤ u → u < a + n → g u ≤ sum_by g (range_with_len a n)
-  term_le a zero u l k = absurd (omega arith)
-  term_le a (suc n) u l k =
-      let c = sum_by-cons g a (range_with_len (a + 1) n) in
-      ⊎_elim
-      (λ (e : a ≡ u). let z : g a ≡ g u = ap g e in omega arith)
-      (λ (o : a ≡ u → ⊥). let r = term_le (a + 1) n u (omega arith) (omega arith) in omega arith)
-      (cases_eq a u)
+  term_le a n u l k =
+      let m = length-range_with_len a n in
+      let e : get_or (range_with_len a n) (u - a) 0 ≡ u = get_or-range_with_len a n (u - a) 0 (omega arith) ∙ (omega arith) in
+      subst (λ v. g v ≤ sum_by g (range_with_len a n)) e (get_or-le-sum_by g (range_with_len a n) (u - a) 0 (omega arith))
 
   scaled_one : (a n u : ℕ) → a ≤ u → u < a + n → 0 < g u → sum_by g (range_with_len a n) ≡ 1 → sum_by (λ v. x v * g v) (range_with_len a n) ≡ x u
   scaled_one a zero u l k p e = absurd (omega arith)
@@ -97,9 +94,6 @@ module _ (x g : ℕ → ℕ) where
       let r = scaled_all (a + 1) n (λ u l k. h u (omega arith) (omega arith)) in
       omega arith
 
-sum_eq : (f g : ℕ → ℕ) → ((v : ℕ) → f v ≡ g v) → (cs : List ℕ) → sum_by f cs ≡ sum_by g cs
-sum_eq f g h cs = tally_sum f cs ∙ tally_same f g h cs ∙ sym (tally_sum g cs)
-
 -- a sum over tables is one over numbers, each as often as it stands there
 by_number : (g : ℕ → ℕ) (n : ℕ) (vs : List ℕ) → AllByRecursion (λ v. v < n) vs → sum_by g vs ≡ sum_by (λ u. count_of u vs * g u) (range_with_len 0 n)
 by_number g n [] h = sym (sum_zero (λ u. 0 * g u) 0 n (λ u. zero-mul (g u)))
@@ -107,7 +101,7 @@ by_number g n (v ∷ vs) h =
     let c = sum_by-cons g v vs in
     let r = by_number g n vs h.1 in
     let s : sum_by (λ u. count_of u (v ∷ vs) * g u) (range_with_len 0 n) ≡ sum_by (λ u. one (eqb v u) * g u + count_of u vs * g u) (range_with_len 0 n) =
-    sum_eq (λ u. count_of u (v ∷ vs) * g u) (λ u. one (eqb v u) * g u + count_of u vs * g u) (λ u. add-mul (one (eqb v u)) (count_of u vs) (g u)) (range_with_len 0 n) in
+    λ i. sum_by (λ u. add-mul (one (eqb v u)) (count_of u vs) (g u) i) (range_with_len 0 n) in
     let a = sum_add (λ u. one (eqb v u) * g u) (λ u. count_of u vs * g u) 0 n in
     let b = sum_one (λ u. one (eqb v u) * g u) (λ u. 0) 0 n v (g v) (omega arith) (let l = h.0 in omega arith)
     (λ u o. ap (λ k. k * g u) (one_other v u (λ e. o (sym e))) ∙ zero-mul (g u)) refl (ap (λ k. k * g v) (one_same v v refl) ∙ one-mul (g v)) in

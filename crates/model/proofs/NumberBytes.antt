@@ -1,5 +1,5 @@
 -- The bytes that a split takes: by the rule, table by table, and no fewer than the tables need.
-use Rattle.std.proofs.Common.{◌≡◌, ℕ, zero, suc, ◌+◌, ◌*◌, ◌<◌, ◌≤◌, Bool, true, false, cond, List, [], ◌∷◌, ◌++◌, length, sum_by, filter, sym, refl, ap, ◌∙◌, subst, ⊎_elim, arith}
+use Rattle.std.proofs.Common.{◌≡◌, ℕ, suc, ◌+◌, ◌*◌, ◌<◌, ◌≤◌, Bool, true, false, cond, List, [], ◌∷◌, ◌++◌, length, sum_by, filter, sym, refl, ap, ◌∙◌, subst, ⊎_elim, arith}
 use Rattle.std.specs.List.{AllByRecursion}
 use Rattle.std.proofs.lemmas.Bool.{cases_Bool, cond-true, cond-false}
 use Rattle.model.specs.Forest.{LigatureSet, Subtable}
@@ -7,7 +7,7 @@ use Rattle.model.specs.Cutting.{Entry, entries, parts}
 use Rattle.model.specs.Splitting.{Group, groups, has, comes_here, sets_of, new_sets, pieces, after_pieces, behind, extended, remains, divided, after_divided, split_all, Part, part, coverage_room, new_set_parts, piece_parts, extension_parts, divided_parts, all_parts}
 use Rattle.model.specs.NumberingLaws.{piece_bytes, coverage_bytes, divided_bytes, family_bytes, Short}
 use Rattle.model.proofs.Lists.{all_front, all_back}
-use Rattle.model.proofs.NumberSums.{tally, tally_sum, tally_append, tally_ones, tally_up}
+use Rattle.model.proofs.NumberSums.{tally, tally_sum, tally_append, tally_ones, tally_up, tally_up_each}
 use Rattle.model.proofs.NumberEntries.{tally_sets}
 use Rattle.model.proofs.NumberGroups.{groups_weigh}
 use Rattle.model.proofs.NumberParts.{Proper, Cut-up}
@@ -165,10 +165,6 @@ pieces_need wrote c kept fresh (p ∷ later) l h =
     let f : length (wrote (fresh + 1)) ≤ 4 + 6 * length (sets_of own (fresh + 2) (groups p)) = h.0 in
     omega arith
 
-pub tally_up_eights : (k n : ℕ) → tally_up (λ v. 8) k n ≡ 8 * n
-tally_up_eights k zero = refl
-tally_up_eights k (suc n) = let a = tally_up_eights (suc k) n in omega arith
-
 pub short_bare : (fresh : ℕ) (ss : List Subtable) → AllByRecursion Short (extended fresh ss) → AllByRecursion Short ss
 short_bare fresh [] h = tt
 short_bare fresh (s ∷ ss) h = (h.0, short_bare (suc fresh) ss h.1)
@@ -192,7 +188,7 @@ module _ (wrote : ℕ → List ℕ) (fresh : ℕ) (s : Subtable) where
       let a : added_pieces byte_weights wrote kept fresh (p ∷ ps) ≤ tally reserved (piece_parts c kept fresh (p ∷ ps)) = pieces_need wrote c kept fresh (p ∷ ps) some (short_bare next many h.1) in
       let b : tally reserved (piece_parts c kept fresh (p ∷ ps) ++ back) ≡ tally reserved (piece_parts c kept fresh (p ∷ ps)) + tally reserved back = tally_append reserved (piece_parts c kept fresh (p ∷ ps)) back in
       let d : tally reserved (extension_parts next (p ∷ ps)) ≡ 8 * length (p ∷ ps) = extensions_take next (p ∷ ps) in
-      let e : tally_up (λ v. 8) next (length (p ∷ ps)) ≡ 8 * length (p ∷ ps) = tally_up_eights next (length (p ∷ ps)) in
+      let e : tally_up (λ v. 8) next (length (p ∷ ps)) ≡ 8 * length (p ∷ ps) = tally_up_each 8 next (length (p ∷ ps)) in
       let f : length (sets_of (λ i. true) 0 (groups kept)) ≡ length (groups kept) = length_sets_of (λ i. true) 0 (groups kept) in
       let g : length (wrote s.coverage) ≤ 4 + 6 * length (sets_of (λ i. true) 0 (groups kept)) = h.0 in
       omega arith

@@ -11,7 +11,7 @@ use Rattle.model.specs.Rules.{nth}
 use Rattle.model.specs.Sound.{GoodSet, GoodSubtable, GoodLookup, Good, Distinct, Lawful, glyphs_of}
 use Rattle.model.specs.NumberingLaws.{up_from, Short}
 use Rattle.model.proofs.Lists.{all_back, joined_all, all_mapped, all-nth, distinct_count, count_distinct}
-use Rattle.model.proofs.NumberSums.{tally, tally_up, tally_up_ones, one, below_counts, counts_below, up_before, up_once, up_behind}
+use Rattle.model.proofs.NumberSums.{tally, tally_up, one, below_counts, counts_below, up_before, up_once, up_behind, tally_up_each}
 use Rattle.model.proofs.NumberEntries.{SomeLigatures}
 use Rattle.model.proofs.NumberWeights.{SomeSets}
 use Rattle.model.proofs.NumberWalks.{walk_length, walk_count}
@@ -63,7 +63,7 @@ module _ (before after : List Placed) (first more : ℕ) (d : Distinct (map vert
       let a = grown (λ v. 1) in
       let x = walk_length after in
       let y = walk_length before in
-      let z = tally_up_ones first more in
+      let z = tally_up_each 1 first more in
       omega arith
 
   pub grown_count : (v : ℕ) → count_of v (map vertex_of after) ≡ count_of v (map vertex_of before) + count_of v (up_from first more)

@@ -1,8 +1,9 @@
 -- Sums over lists and over runs of numbers, and how often a number stands in a list.
-use Rattle.std.proofs.Common.{◌≡◌, ℕ, zero, suc, ◌+◌, ◌<◌, ◌≤◌, cond, eqb, List, [], ◌∷◌, ◌++◌, map, length, sum_by, refl, ap, ◌∙◌, ⊎_elim, arith}
+use Rattle.std.proofs.Common.{◌≡◌, ℕ, zero, suc, ◌+◌, ◌<◌, ◌≤◌, cond, eqb, List, [], ◌∷◌, ◌++◌, map, length, sum_by, refl, ap, ◌∙◌, ⊎_elim, arith, ◌*◌, sym}
 use Rattle.std.specs.List.{flat_map, AllByRecursion}
 use Rattle.std.proofs.lemmas.List.Sums.{sum_by-cons}
 use Rattle.std.proofs.lemmas.Bool.{cases_Bool, cases_eq, cases_lt, cond-true, cond-false}
+use Rattle.std.proofs.Math.Nat.{mul-zero, mul-suc}
 use Rattle.model.proofs.Lists.{one_same, one_other}
 use Rattle.model.specs.Tables.{count_of}
 use Rattle.model.specs.NumberingLaws.{up_from}
@@ -19,13 +20,6 @@ tally_sum f (x ∷ xs) = sum_by-cons f x xs ∙ ap (λ n. f x + n) (tally_sum f 
 pub tally_append : {X : Type 0} (f : X → ℕ) (xs ys : List X) → tally f (xs ++ ys) ≡ tally f xs + tally f ys
 tally_append f [] ys = omega arith
 tally_append f (x ∷ xs) ys = let e = tally_append f xs ys in omega arith
-
-pub tally_same : {X : Type 0} (f g : X → ℕ) → ((x : X) → f x ≡ g x) → (xs : List X) → tally f xs ≡ tally g xs
-tally_same f g h [] = refl
-tally_same f g h (x ∷ xs) =
-    let e = tally_same f g h xs in
-    let k = h x in
-    omega arith
 
 pub tally_plus : {X : Type 0} (f g : X → ℕ) (xs : List X) → tally (λ x. f x + g x) xs ≡ tally f xs + tally g xs
 tally_plus f g [] = refl
@@ -65,9 +59,12 @@ tally_up_more w k (suc a) b =
     let g : tally_up w (suc k + a) b ≡ tally_up w (k + suc a) b = ap (λ t. tally_up w t b) y in
     omega arith
 
-pub tally_up_ones : (k n : ℕ) → tally_up (λ v. 1) k n ≡ n
-tally_up_ones k zero = refl
-tally_up_ones k (suc n) = let e = tally_up_ones (suc k) n in omega arith
+pub tally_up_each : (c k n : ℕ) → tally_up (λ v. c) k n ≡ c * n
+tally_up_each c k zero = sym (mul-zero c)
+tally_up_each c k (suc n) =
+    let e = tally_up_each c (suc k) n in
+    let m = mul-suc c n in
+    omega arith
 
 pub up_from_more : (k a b : ℕ) → up_from k (a + b) ≡ up_from k a ++ up_from (k + a) b
 up_from_more k zero b =

@@ -1,10 +1,10 @@
 -- What the new tables of a split count for: vertices and links, cut by cut; the numbers in order.
-use Rattle.std.proofs.Common.{◌≡◌, ℕ, zero, suc, ◌+◌, ◌*◌, Bool, true, false, cond, List, [], ◌∷◌, ◌++◌, length, sym, refl, ap, ◌∙◌, subst, arith}
+use Rattle.std.proofs.Common.{◌≡◌, ℕ, suc, ◌+◌, ◌*◌, Bool, true, false, cond, List, [], ◌∷◌, ◌++◌, length, sym, refl, ap, ◌∙◌, subst, arith}
 use Rattle.std.specs.List.{flat_map, AllByRecursion}
 use Rattle.model.specs.Forest.{Subtable}
 use Rattle.model.specs.Cutting.{Entry, entries, parts, Cut, cuts_of, cuts_before, cuts}
 use Rattle.model.specs.Splitting.{groups, comes_here, new_sets, after_pieces, after_divided, split_all, inside, cut_vertices, cut_links}
-use Rattle.model.proofs.NumberSums.{tally, tally_append, tally_same, tally_up, tally_up_more, tally_up_ones}
+use Rattle.model.proofs.NumberSums.{tally, tally_append, tally_up, tally_up_more, tally_up_each}
 use Rattle.model.proofs.NumberParts.{Cut-up, new_count, new_within, cuts_inside, after_pieces_lem}
 use Rattle.model.proofs.NumberWeights.{Weights, SomeSets, of_subtable, added_pieces, added_divided, kept_coverage, parts_cut_up, added_all, coverages_before, coverages_after, split_weighs}
 use Rattle.model.proofs.NumberWalks.{vertex_weights, link_weights}
@@ -116,23 +116,19 @@ pub after_divided_lem : (ceiling : ℕ) (wrapped : Bool) (fresh : ℕ) (s : Subt
 after_divided_lem ceiling wrapped fresh s h = (one_numbers (λ v. 0) (λ v. []) ceiling wrapped fresh s h).1
 
 -- LINKS
-tally_up_twos : (k n : ℕ) → tally_up (λ v. 2) k n ≡ 2 * n
-tally_up_twos k zero = refl
-tally_up_twos k (suc n) = let a = tally_up_twos (suc k) n in omega arith
-
 module _ (wrote : ℕ → List ℕ) where
   pieces_link : (kept : List Entry) (fresh : ℕ) (ps : List (List Entry)) → added_pieces link_weights wrote kept fresh ps ≡ 2 * length ps + 2 * new_count kept ps
   pieces_link kept fresh [] = refl
   pieces_link kept fresh (p ∷ later) =
       let a = pieces_link kept (fresh + 2 + new_sets (comes_here kept later) (groups p)) later in
-      let b = tally_up_twos (fresh + 2) (new_sets (comes_here kept later) (groups p)) in
+      let b = tally_up_each 2 (fresh + 2) (new_sets (comes_here kept later) (groups p)) in
       omega arith
 
   extensions_link : (wrapped : Bool) (kept : List Entry) (fresh : ℕ) (ps : List (List Entry))
       → added_divided link_weights wrapped wrote fresh (kept ∷ ps) ≡ 2 * length ps + 2 * new_count kept ps + cond wrapped (length ps) 0
   extensions_link true kept fresh ps =
       let a = pieces_link kept fresh ps in
-      let b = tally_up_ones (after_pieces kept fresh ps) (length ps) in
+      let b = tally_up_each 1 (after_pieces kept fresh ps) (length ps) in
       omega arith
   extensions_link false kept fresh ps =
       let a = pieces_link kept fresh ps in
@@ -162,7 +158,7 @@ module _ (k : Weights) (ceiling : ℕ) (wrote : ℕ → List ℕ) (same : (v : �
 
   coverages_same : (ss : List Subtable) (wrapped : Bool) → coverages_after k ceiling wrapped wrote ss ≡ coverages_before k ceiling wrapped wrote ss
   coverages_same ss wrapped =
-      tally_same (λ (s : Subtable). kept_coverage k wrote s (parts ceiling (entries s))) (λ (s : Subtable). k.coverage s.coverage s.covering) (λ s. kept_same s (parts ceiling (entries s))) ss
+      λ i. tally (λ (s : Subtable). kept_same s (parts ceiling (entries s)) i) ss
 
 -- ALL SUBTABLES OF A LOOKUP
 module _ (ceiling : ℕ) (wrapped : Bool) (wrote : ℕ → List ℕ) (fresh : ℕ) (ss : List Subtable) (h : AllByRecursion SomeSets ss) where

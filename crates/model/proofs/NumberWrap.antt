@@ -13,10 +13,9 @@ use Rattle.model.specs.Sound.{GoodLookup, Good}
 use Rattle.model.specs.NumberingLaws.{up_from, Wraps, Wrapped, WrapsAsBilled}
 use Rattle.model.specs.CuttingLaws.{bytes_of}
 use Rattle.model.proofs.Lists.{nth_set_same}
-use Rattle.model.proofs.NumberSums.{tally, tally_sum, tally_up, tally_up_ones}
+use Rattle.model.proofs.NumberSums.{tally, tally_sum, tally_up, tally_up_each}
 use Rattle.model.proofs.NumberWeights.{Weights, of_subtable, extended_weigh}
 use Rattle.model.proofs.NumberWalks.{vertex_weights, link_weights, byte_weights, lookup_vertices, lookup_links, lookup_bytes_lem, walk_in_place}
-use Rattle.model.proofs.NumberBytes.{tally_up_eights}
 use Rattle.model.proofs.NumberTables.{extended_keep}
 use Rattle.model.proofs.NumberModel.{good_lookup, grown_length, grown_count, grown_distinct, grown_below}
 use Rattle.model.proofs.KeepModels.{wrap_to, wrap_is}
@@ -70,7 +69,7 @@ module _ (meaning : List ℕ → Option Meant) (m : Model) (n : ℕ) (l : Lookup
       let b = lookup_links l in
       let c = lookup_links (wrap_lookup m.taken.vertices l) in
       let d = weighs link_weights in
-      let e = tally_up_ones m.taken.vertices (length l.subtables) in
+      let e = tally_up_each 1 m.taken.vertices (length l.subtables) in
       let f = tally_sum links_of before in
       let h = tally_sum links_of now in
       omega arith
@@ -81,7 +80,7 @@ module _ (meaning : List ℕ → Option Meant) (m : Model) (n : ℕ) (l : Lookup
       let b = lookup_bytes_lem l in
       let c = lookup_bytes_lem (wrap_lookup m.taken.vertices l) in
       let d = weighs byte_weights in
-      let e = tally_up_eights m.taken.vertices (length l.subtables) in
+      let e = tally_up_each 8 m.taken.vertices (length l.subtables) in
       let f = tally_sum bytes_of before in
       let h = tally_sum bytes_of now in
       omega arith

@@ -12,14 +12,13 @@ use Rattle.model.specs.CuttingLaws.{InOrder, groups_from, FilledSets, under}
 use Rattle.model.specs.PieceLaws.{held, gathered, IsPart, Original, PartByPart, PiecesAreTheParts, Home}
 use Rattle.model.proofs.PartsGroups.{order_entries, order_parts, groups_flat, groups_entries}
 use Rattle.model.proofs.NumberEntries.{itself, parts_divide}
-use Rattle.words.proofs.Saying.{none_some}
 use Rattle.model.proofs.Lists.{all-nth}
 use Rattle.model.proofs.KeepGlyphs.{glyphs_of_sets}
 use Rattle.model.proofs.KeepSizes.{length-divided}
 
 -- PARTS BY NUMBER
 nth_part_lem : (ps : List (List Entry)) (k : ℕ) (p : List Entry) → nth ps k ≡ Some p → nth_part ps k ≡ p
-nth_part_lem [] k p e = absurd (none_some e)
+nth_part_lem [] k p e = cc
 nth_part_lem (q ∷ ps) zero p e = same_Some q p e
 nth_part_lem (q ∷ ps) (suc k) p e = nth_part_lem ps k p e
 
@@ -48,7 +47,7 @@ record Behind (fresh : ℕ) (kept : List Entry) (later : List (List Entry)) (k :
 
 behind_all_lem : (wrote : ℕ → List ℕ) (kept : List Entry) (fresh : ℕ) (later : List (List Entry)) (k : ℕ) (p : List Entry) (d : Subtable)
     → nth later k ≡ Some p → nth (pieces wrote kept fresh later) k ≡ Some d → Behind fresh kept later k p d
-behind_all_lem wrote kept fresh [] k p d e f = absurd (none_some e)
+behind_all_lem wrote kept fresh [] k p d e f = cc
 behind_all_lem wrote kept fresh (q ∷ later) zero p d e f =
     let here : Subtable
     = record { extension = None; vertex = fresh; coverage = fresh + 1; covering = wrote (fresh + 1); sets = sets_of (comes_here kept later) (fresh + 2) (groups q) } in
@@ -68,7 +67,7 @@ record Bare (ss : List Subtable) (k : ℕ) (d : Subtable) : Type 0 where
   sets : d.sets ≡ bare.sets
 
 bare_of : (e : ℕ) (ss : List Subtable) (k : ℕ) (d : Subtable) → nth (extended e ss) k ≡ Some d → Bare ss k d
-bare_of e [] k d f = absurd (none_some f)
+bare_of e [] k d f = cc
 bare_of e (s ∷ ss) zero d f =
     record { bare = s; is = refl; sets = ap (λ (x : Subtable). x.sets) (sym (same_Some (record { extension = Some e; vertex = s.vertex; coverage = s.coverage; covering = s.covering; sets = s.sets }) d f)) }
 bare_of e (s ∷ ss) (suc k) d f = let b = bare_of (suc e) ss k d f in record { bare = b.bare; is = b.is; sets = b.sets }
@@ -137,7 +136,7 @@ module _ (wrapped : Bool) (wrote : ℕ → List ℕ) (fresh : ℕ) (s : Subtable
       (ap (λ (x : Subtable). x.sets) (sym (same_Some s d f))
       ∙ sym (own_sets 0 s.sets)
       ∙ ap (sets_of (λ k. true) 0) (sym (groups_entries s filled) ∙ ap groups (sym w ∙ append-nil kept ∙ q)))
-  piece_of kept [] w (suc k) p d e f = absurd (none_some e)
+  piece_of kept [] w (suc k) p d e f = cc
   piece_of kept (q ∷ later) w zero p d e f =
       let r = same_Some kept p e in
       first_piece fresh kept (q ∷ later) p d r

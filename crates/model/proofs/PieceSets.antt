@@ -12,7 +12,6 @@ use Rattle.model.specs.PieceLaws.{LastWith, Home, Settled, Found, OnePlace, Divi
 use Rattle.model.proofs.PartsGroups.{entries_stand}
 use Rattle.model.proofs.NumberEntries.{itself, parts_divide, has-append, any_joined}
 use Rattle.model.proofs.LoadLists.{nth_below, nth_there}
-use Rattle.words.proofs.Saying.{none_some}
 use Rattle.model.proofs.Lists.{all-nth}
 use Rattle.model.proofs.KeepParts.{all_whole}
 use Rattle.model.proofs.KeepSizes.{join_all, length-divided, length_sets_of}
@@ -55,7 +54,7 @@ set_on own at from u us j t l a =
     record { group = a.group; of = a.of; first = a.first; ligatures = a.ligatures; mine = a.mine; new = λ f. let q = a.new f in omega arith }
 
 set_at : (own : ℕ → Bool) (at : ℕ) (us : List Group) (j : ℕ) (t : LigatureSet) → nth (sets_of own at us) j ≡ Some t → SetAt own at us j t
-set_at own at [] j t e = absurd (none_some e)
+set_at own at [] j t e = cc
 set_at own at (u ∷ us) zero t e =
     cond_both (own u.set) (own_set u ∷ sets_of own at us) (new_set at u ∷ sets_of own (suc at) us)
     (λ (xs : List LigatureSet). nth xs 0 ≡ Some t → SetAt own at (u ∷ us) 0 t)
@@ -167,7 +166,7 @@ has-set i j t [] rest l = absurd (omega arith)
 has-set i j t (g ∷ gs) rest l = ap (λ b. b || has i (entries_from i (suc j) t gs ++ rest)) (eq-eqb i i refl)
 
 has_sets : (i n m : ℕ) (ts : List LigatureSet) (t : LigatureSet) → m ≡ i + n → nth ts n ≡ Some t → FilledSets ts → has m (sets_from i ts) ≡ true
-has_sets i n m [] t q e f = absurd (none_some e)
+has_sets i n m [] t q e f = cc
 has_sets i zero m (u ∷ ts) t q e f =
     let r : i ≡ m = omega arith in
     subst (λ x. has x (sets_from i (u ∷ ts)) ≡ true) r (has-set i 0 u u.ligatures (sets_from (suc i) ts) f.0)

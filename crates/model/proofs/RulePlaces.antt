@@ -1,7 +1,6 @@
 -- A rule's answer points to a ligature of the subtable with the index answered.
 use Rattle.std.proofs.Common.{◌≡◌, ℕ, suc, ◌+◌, List, [], ◌∷◌, Some, None, Ok, Option, sym, refl, ap, ◌∙◌, subst, ⊎_elim, arith}
 use Rattle.std.specs.List.{flat_map}
-use Rattle.std.proofs.lemmas.Option.{none-some}
 use Rattle.model.proofs.LoadLists.{nth_mapped}
 use Rattle.model.specs.Forest.{Ligature, LigatureSet, Subtable, Lookup}
 use Rattle.model.specs.Rules.{Sourced, sourced, sourced_set, sourced_from, sourced_rules, told, rule_in, nth}
@@ -17,7 +16,7 @@ record InSets (n : ℕ) (ts : List LigatureSet) (x : Sourced) : Type 0 where
   is : x ≡ sourced n set.first ligature
 
 in_sets : (n : ℕ) (ts : List LigatureSet) (k : ℕ) (x : Sourced) → nth (flat_map (sourced_set n) ts) k ≡ Some x → InSets n ts x
-in_sets n [] k x e = absurd (none-some x e)
+in_sets n [] k x e = cc
 in_sets n (t ∷ ts) k x e =
     ⊎_elim
     (λ h. let m = nth_mapped (sourced n t.first) t.ligatures h.0 x h.1 in record { set = t; set_at = (0, refl); ligature = m.0; ligature_at = (h.0, m.1); is = sym m.2 })
@@ -32,7 +31,7 @@ record InSubtables (n : ℕ) (ss : List Subtable) (x : Sourced) : Type 0 where
   sets : InSets (n + at) subtable.sets x
 
 in_subtables : (n : ℕ) (ss : List Subtable) (k : ℕ) (x : Sourced) → nth (sourced_from n ss) k ≡ Some x → InSubtables n ss x
-in_subtables n [] k x e = absurd (none-some x e)
+in_subtables n [] k x e = cc
 in_subtables n (s ∷ ss) k x e =
     ⊎_elim
     (λ h. record { at = 0; subtable = s; there = refl; sets = subst (λ i. InSets i s.sets x) (let z : n ≡ n + 0 = omega arith in z) (in_sets n s.sets h.0 x h.1) })

@@ -1,8 +1,9 @@
 -- Where a rule comes from: its ligature's table stands in the walk, and its bytes are those of its vertex.
-use Rattle.std.proofs.Common.{◌≡◌, ℕ, zero, suc, ◌<◌, cond, eqb, ◌⊎◌, List, [], ◌∷◌, ◌++◌, map, Some, sym, ap, ◌∙◌, subst, inl, inr, ⊎_elim, arith}
+use Rattle.std.proofs.Common.{◌≡◌, ℕ, zero, suc, ◌<◌, ◌⊎◌, List, [], ◌∷◌, ◌++◌, map, Some, sym, ap, ◌∙◌, subst, inl, inr, ⊎_elim, arith}
 use Rattle.std.proofs.lemmas.Bool.{eq-eqb, ne_eqb, cond-true, cond-false}
 use Rattle.std.specs.List.{flat_map}
 use Rattle.std.proofs.lemmas.Option.{none-some, same_Some}
+use Rattle.model.proofs.Lists.{one_same}
 use Rattle.model.proofs.LoadLists.{nth-map, nth_mapped}
 use Rattle.model.specs.Forest.{Ligature, LigatureSet, Subtable, Lookup, Model}
 use Rattle.model.specs.Tables.{Placed, vertex_of, count_of, ligature_table, set_walk, extension_walk, subtable_table, coverage_table, subtable_walk, lookup_walk, model_walk, bytes_at}
@@ -53,7 +54,7 @@ source_set c n t k x e =
     }
 
 source_sets : (c n : ℕ) (ts : List LigatureSet) (k : ℕ) (x : Sourced) → nth (flat_map (sourced_set n) ts) k ≡ Some x → Source (flat_map (set_walk c) ts) x
-source_sets c n [] k x e = absurd (none-some x e)
+source_sets c n [] k x e = cc
 source_sets c n (t ∷ ts) k x e =
     ⊎_elim
     (λ h. moved (set_walk c t) (flat_map (set_walk c) (t ∷ ts)) x (λ p. in_front (set_walk c t) (flat_map (set_walk c) ts) p) (source_set c n t h.0 x h.1))
@@ -67,7 +68,7 @@ source_subtable n s k x e =
     (source_sets s.coverage n s.sets k x e)
 
 source_subtables : (n : ℕ) (ss : List Subtable) (k : ℕ) (x : Sourced) → nth (sourced_from n ss) k ≡ Some x → Source (flat_map subtable_walk ss) x
-source_subtables n [] k x e = absurd (none-some x e)
+source_subtables n [] k x e = cc
 source_subtables n (s ∷ ss) k x e =
     ⊎_elim
     (λ h. moved (subtable_walk s) (flat_map subtable_walk (s ∷ ss)) x (λ p. in_front (subtable_walk s) (flat_map subtable_walk ss) p) (source_subtable n s h.0 x h.1))
@@ -75,7 +76,7 @@ source_subtables n (s ∷ ss) k x e =
     (in_either (flat_map (sourced_set n) s.sets) (sourced_from (suc n) ss) k x e)
 
 in_lookups : (ls : List Lookup) (n : ℕ) (l : Lookup) (p : Placed) → nth ls n ≡ Some l → In p (lookup_walk l) → In p (flat_map lookup_walk ls)
-in_lookups [] n l p e h = absurd (none-some l e)
+in_lookups [] n l p e h = cc
 in_lookups (k ∷ ls) zero l p e h = in_front (lookup_walk k) (flat_map lookup_walk ls) p (subst (λ (z : Lookup). In p (lookup_walk z)) (sym (same_Some k l e)) h)
 in_lookups (k ∷ ls) (suc n) l p e h = in_behind (lookup_walk k) (flat_map lookup_walk ls) p (in_lookups ls n l p e h)
 
@@ -84,20 +85,17 @@ pub source : (m : Model) (n : ℕ) (l : Lookup) (k : ℕ) (x : Sourced) → nth 
 source m n l k x is e =
     moved (flat_map subtable_walk l.subtables) (model_walk m) x (λ p h. in_lookups m.lookups n l p is (suc h.0, h.1)) (source_subtables 0 l.subtables k x e)
 
-abbrev count_head : ℕ → ℕ → ℕ
-count_head v t = cond (eqb t v) 1 0
-
 -- no vertex twice: a table of the walk is the table of its vertex
 counted : (ps : List Placed) (i : ℕ) (p : Placed) → nth ps i ≡ Some p → 0 < count_of p.vertex (map vertex_of ps)
-counted [] i p e = absurd (none-some p e)
+counted [] i p e = cc
 counted (q ∷ ps) zero p e =
     let same = ap (λ (z : Placed). z.vertex) (same_Some q p e) in
-    let b : count_head p.vertex q.vertex ≡ 1 = cond-true _ _ _ (eq-eqb q.vertex p.vertex same) in
+    let b = one_same q.vertex p.vertex same in
     omega arith
 counted (q ∷ ps) (suc i) p e = let h = counted ps i p e in omega arith
 
 pub bytes_of : (ps : List Placed) (i : ℕ) (p : Placed) → Distinct (map vertex_of ps) → nth ps i ≡ Some p → bytes_at ps p.vertex ≡ Some p.table.bytes
-bytes_of [] i p d e = absurd (none-some p e)
+bytes_of [] i p d e = cc
 bytes_of (q ∷ ps) zero p d e =
     let same = same_Some q p e in
     cond-true _ _ _ (eq-eqb q.vertex p.vertex (ap (λ (z : Placed). z.vertex) same)) ∙ ap (λ (z : Placed). Some z.table.bytes) same
