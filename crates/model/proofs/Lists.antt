@@ -1,10 +1,11 @@
 -- Lists: what holds of each element, elements by number, one element put in another's place, how often a number stands.
-use Rattle.std.proofs.Common.{◌≡◌, ℕ, zero, suc, ◌+◌, ◌≤◌, Bool, cond, eqb, List, [], ◌∷◌, ◌++◌, map, length, set, IfSome, Some, None, Option, sym, refl, ap, subst, ⊎_elim, arith}
+use Rattle.std.proofs.Common.{◌≡◌, ℕ, zero, suc, ◌+◌, ◌≤◌, Bool, cond, eqb, List, [], ◌∷◌, ◌++◌, map, length, set, IfSome, Some, None, Option, refl, ap, subst, arith}
 use Rattle.std.specs.Option.{option_to_list}
 use Rattle.std.specs.List.{flat_map, AllByRecursion}
 use Rattle.std.proofs.ByRecursion.{All-append}
-use Rattle.std.proofs.lemmas.Bool.{cases_eq, eq-eqb, ne_eqb, cond-true, cond-false}
+use Rattle.std.proofs.lemmas.Bool.{eq-eqb, ne_eqb, cond-true, cond-false}
 use Rattle.std.proofs.lemmas.Option.{same_Some}
+use Rattle.std.proofs.lemmas.Bool.Decides.{nat_tests}
 use Rattle.model.specs.Rules.{nth}
 use Rattle.model.specs.Tables.{count_of}
 use Rattle.model.specs.Sound.{Distinct}
@@ -61,12 +62,11 @@ nth_set_other (w ∷ xs) (suc n) (suc k) y ne = nth_set_other xs n k y (λ e. ne
 
 -- what does not see a change at n sees none anywhere
 pub nth_set_kept : {X : Type 0} (P : Option X → Option X → Type 0) (xs : List X) (n : ℕ) (x y : X) → nth xs n ≡ Some x → P (Some y) (Some x) → ((o : Option X) → P o o) → (k : ℕ) → P (nth (set xs n y) k) (nth xs k)
-nth_set_kept P xs n x y h p same k =
-    ⊎_elim
-    (λ (e : k ≡ n). subst (λ (j : ℕ). P (nth (set xs n y) j) (nth xs j)) (sym e)
-    (subst (λ (o : Option _). P o (nth xs n)) (sym (nth_set_same xs n x y h)) (subst (λ (o : Option _). P (Some y) o) (sym h) p)))
-    (λ (ne : k ≡ n → ⊥). subst (λ (o : Option _). P o (nth xs k)) (sym (nth_set_other xs n k y ne)) (same (nth xs k)))
-    (cases_eq k n)
+nth_set_kept P [] n x y h p same k = cc
+nth_set_kept P (w ∷ xs) zero x y h p same zero = rw h p
+nth_set_kept P (w ∷ xs) zero x y h p same (suc k) = same (nth xs k)
+nth_set_kept P (w ∷ xs) (suc n) x y h p same zero = same (Some w)
+nth_set_kept P (w ∷ xs) (suc n) x y h p same (suc k) = nth_set_kept P xs n x y h p same k
 
 -- AT MOST ONE ELEMENT
 pub option_few : {X : Type 0} (o : Option X) → length (option_to_list o) ≤ 1
@@ -89,19 +89,12 @@ one_other a b o = cond-false (eqb a b) 1 0 (ne_eqb a b o)
 
 pub count_append : (v : ℕ) (us vs : List ℕ) → count_of v (us ++ vs) ≡ count_of v us + count_of v vs
 count_append v [] vs = omega arith
-count_append v (u ∷ us) vs = let h = count_append v us vs in omega arith
+count_append v (u ∷ us) vs = omega (arith, count_append v us vs)
 
 pub distinct_count : (vs : List ℕ) → Distinct vs → (v : ℕ) → count_of v vs ≤ 1
 distinct_count [] d v = omega arith
-distinct_count (u ∷ us) d v =
-    ⊎_elim
-    (λ same. let z = subst (λ (t : ℕ). count_of t us ≡ 0) same d.0 in let o = one_same u v same in omega arith)
-    (λ other. let z = distinct_count us d.1 v in let o = one_other u v other in omega arith)
-    (cases_eq u v)
+distinct_count (u ∷ us) d v = grind (arith, nat_tests, distinct_count us d.1 v)
 
 pub count_distinct : (vs : List ℕ) → ((v : ℕ) → count_of v vs ≤ 1) → Distinct vs
 count_distinct [] h = tt
-count_distinct (u ∷ us) h =
-    let o = one_same u u refl in
-    let here = h u in
-    (omega arith, count_distinct us (λ v. let i = h v in omega arith))
+count_distinct (u ∷ us) h = (grind (arith, nat_tests, h u), count_distinct us (λ v. omega (arith, h v)))

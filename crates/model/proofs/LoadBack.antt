@@ -7,10 +7,9 @@ use Rattle.std.proofs.lemmas.List.Sums.{sum_by-cons}
 use Rattle.std.proofs.ByRecursion.{All-append, All-map, All-weaker}
 use Rattle.std.proofs.lemmas.List.FromFn.{length-map-range_with_len}
 use Rattle.std.proofs.lemmas.List.Sorted.{IsPermutation-refl}
-use Rattle.std.proofs.lemmas.Bool.{cases_eq, eq-eqb, eqb-true, ne_eqb, cond-true, cond-false, cond_both, and_parts, leb-true, le-leb}
+use Rattle.std.proofs.lemmas.Bool.{cases_eq, eq-eqb, eqb-true, ne_eqb, cond-true, cond-false, cond_both, and_parts, leb-true}
 use Rattle.std.specs.List.Sorted.{IsPermutation}
-use Rattle.refusals.specs.declared.Pool.{Pool}
-use Rattle.refusals.specs.declared.Pool.TheVariants.{Vertices, Links, Bytes}
+use Rattle.std.proofs.lemmas.Bool.Decides.{nat_tests}
 use Rattle.words.specs.declared.Width.TheVariants.{Two, Four}
 use Rattle.words.specs.Grammar.{virtual, FineLink, FineTable, Fine, spelled}
 use Rattle.words.specs.Reading.{links_in, bytes_in}
@@ -426,18 +425,9 @@ module _ {admits : List ℕ → Type 0} {meaning : List ℕ → Option Meant} {s
       accepted (stream_of m) (tidy m) (record { fine = stream_fine l; words = refl }) (ap (short_of caps) (sym taken_back) ∙ room) loaded_back
 
 -- no pool is short that holds what is taken from it
-three_pass : (a b c : Bool) (x y z : Option Pool) → a ≡ true → b ≡ true → c ≡ true → cond a (cond b (cond c None x) y) z ≡ None
-three_pass a b c x y z p q r = cond-true a (cond b (cond c None x) y) z p ∙ cond-true b (cond c None x) y q ∙ cond-true c None x r
-
 pub room_enough : (caps : Capacities) (t : Taken) → Enough caps t → short_of caps t ≡ None
 room_enough caps t e =
-    let v : 0 + t.vertices ≤ caps.vertices = let h = e.vertices in omega arith in
-    let l : 0 + t.links ≤ caps.links = let h = e.links in omega arith in
-    let b : 0 + t.bytes ≤ caps.bytes = let h = e.bytes in omega arith in
-    three_pass (leb (0 + t.vertices) caps.vertices) (leb (0 + t.links) caps.links) (leb (0 + t.bytes) caps.bytes) (Some Bytes) (Some Links) (Some Vertices)
-    (le-leb (0 + t.vertices) caps.vertices v)
-    (le-leb (0 + t.links) caps.links l)
-    (le-leb (0 + t.bytes) caps.bytes b)
+    grind (arith, nat_tests, e.vertices, e.links, e.bytes)
 
 pub models_load : {admits : List ℕ → Type 0} {meaning : List ℕ → Option Meant} {span : List ℕ → ℕ} → Lawful admits meaning span → ModelsLoad meaning
 models_load law caps m h l room = loads_back law m h caps l (room_enough caps (tidy m).taken room)

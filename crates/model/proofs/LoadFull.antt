@@ -34,18 +34,9 @@ sum_add f g a n =
 sum_gap : (f : ℕ → ℕ) (a n u : ℕ) → ((v : ℕ) → f v ≤ 1) → a ≤ u → u < a + n → f u ≡ 0 → sum_by f (range_with_len a n) < n
 sum_gap f a zero u h l k e = absurd (omega arith)
 sum_gap f a (suc n) u h l k e =
-    let c = sum_by-cons f a (range_with_len (a + 1) n) in
-    ⊎_elim
-    (λ (at : a ≡ u).
-    let r = sum_by-le f 1 (range_with_len (a + 1) n) (λ i d j. h (get_or (range_with_len (a + 1) n) i d)) in
-    let s = length-range_with_len (a + 1) n in
-    let z : f a ≡ 0 = ap f at ∙ e in
-    omega arith)
-    (λ (off : a ≡ u → ⊥).
-    let r = sum_gap f (a + 1) n u h (omega arith) (omega arith) e in
-    let z = h a in
-    omega arith)
-    (cases_eq a u)
+    let most = sum_by-le f 1 (range_with_len (a + 1) n) (λ i d j. h (get_or (range_with_len (a + 1) n) i d)) in
+    let many = length-range_with_len (a + 1) n in
+    grind (arith, cases_eq a u, sum_by-cons f a (range_with_len (a + 1) n), h a, sum_gap f (a + 1) n u h)
 
 pub counted_all : (n : ℕ) (vs : List ℕ) → AllByRecursion (λ v. v < n) vs → sum_by (λ v. count_of v vs) (range_with_len 0 n) ≡ length vs
 counted_all n [] h = sum_zero (λ v. 0) 0 n (λ v. refl)

@@ -1,5 +1,5 @@
 -- Lists for the proofs about loading: elements by number, sums over all numbers below a bound.
-use Rattle.std.proofs.Common.{◌≡◌, ℕ, zero, suc, ◌+◌, ◌*◌, ◌/◌, ◌%◌, ◌<◌, ◌≤◌, Bool, cond, List, [], ◌∷◌, map, length, get_or, Some, sum_by, count_by, sym, refl, ap, ◌∙◌, ⊎_elim, arith}
+use Rattle.std.proofs.Common.{◌≡◌, ℕ, zero, suc, ◌+◌, ◌%◌, ◌<◌, ◌≤◌, Bool, cond, List, [], ◌∷◌, map, length, get_or, Some, sum_by, count_by, refl, ap, ◌∙◌, arith}
 use Rattle.std.specs.List.{ContainsAt as Has, AllByRecursion, range_with_len}
 use Rattle.std.proofs.lemmas.List.Sums.{sum_by-cons}
 use Rattle.std.proofs.lemmas.Bool.{cases_eq}
@@ -53,48 +53,28 @@ count_cons p x xs = sum_by-cons (λ y. cond (p y) 1 0) x xs
 module _ (f g : ℕ → ℕ) where
   pub sum_same : (a n : ℕ) → ((v : ℕ) → a ≤ v → f v ≡ g v) → sum_by f (range_with_len a n) ≡ sum_by g (range_with_len a n)
   sum_same a zero h = refl
-  sum_same a (suc n) h =
-      sum_by-cons f a (range_with_len (a + 1) n)
-      ∙ (let e = h a (omega arith) in let r = sum_same (a + 1) n (λ v l. h v (omega arith)) in ap (λ x. x + sum_by f (range_with_len (a + 1) n)) e ∙ ap (λ x. g a + x) r)
-      ∙ sym (sum_by-cons g a (range_with_len (a + 1) n))
+  sum_same a (suc n) h = omega (arith, sum_by-cons f a (range_with_len (a + 1) n), sum_by-cons g a (range_with_len (a + 1) n), h a, sum_same (a + 1) n (λ v l. h v (omega arith)))
 
   -- that differ at one number only
   pub sum_one : (a n u x : ℕ) → a ≤ u → u < a + n → ((v : ℕ) → (v ≡ u → ⊥) → f v ≡ g v) → g u ≡ 0 → f u ≡ x → sum_by f (range_with_len a n) ≡ x + sum_by g (range_with_len a n)
   sum_one a zero u x l h same e i = absurd (omega arith)
   sum_one a (suc n) u x l h same e i =
-      let cf : sum_by f (range_with_len a (suc n)) ≡ f a + sum_by f (range_with_len (a + 1) n) = sum_by-cons f a (range_with_len (a + 1) n) in
-      let cg : sum_by g (range_with_len a (suc n)) ≡ g a + sum_by g (range_with_len (a + 1) n) = sum_by-cons g a (range_with_len (a + 1) n) in
-      ⊎_elim
-      (λ (at : a ≡ u).
-      let r : sum_by f (range_with_len (a + 1) n) ≡ sum_by g (range_with_len (a + 1) n) = sum_same (a + 1) n (λ v m. same v (λ w. omega arith)) in
-      let fa : f a ≡ x = ap f at ∙ i in
-      let ga : g a ≡ 0 = ap g at ∙ e in
-      omega arith)
-      (λ (off : a ≡ u → ⊥).
-      let r : sum_by f (range_with_len (a + 1) n) ≡ x + sum_by g (range_with_len (a + 1) n) = sum_one (a + 1) n u x (omega arith) (omega arith) same e i in
-      let fa : f a ≡ g a = same a off in
-      omega arith)
-      (cases_eq a u)
+      let rest : a ≡ u → sum_by f (range_with_len (a + 1) n) ≡ sum_by g (range_with_len (a + 1) n) = λ q. sum_same (a + 1) n (λ v m. same v (λ w. omega arith)) in
+      grind (arith, cases_eq a u, sum_by-cons f a (range_with_len (a + 1) n), sum_by-cons g a (range_with_len (a + 1) n), same a, rest, sum_one (a + 1) n u x)
 
 pub sum_zero : (f : ℕ → ℕ) (a n : ℕ) → ((v : ℕ) → f v ≡ 0) → sum_by f (range_with_len a n) ≡ 0
 sum_zero f a zero h = refl
-sum_zero f a (suc n) h = let c = sum_by-cons f a (range_with_len (a + 1) n) in let e = h a in let r = sum_zero f (a + 1) n h in omega arith
+sum_zero f a (suc n) h = omega (arith, sum_by-cons f a (range_with_len (a + 1) n), h a, sum_zero f (a + 1) n h)
 
 -- BYTES TWO BY TWO
 pub value_bytes_values : (bs : List ℕ) → Bytes bs → length bs % 2 ≡ 0 → value_bytes (values bs) ≡ bs
 value_bytes_values [] h e = refl
 value_bytes_values (x ∷ []) h e = absurd (omega arith)
 value_bytes_values (x ∷ y ∷ bs) h e =
-    let ly : y < 256 = h 1 (omega arith) in
-    let rest = value_bytes_values bs (λ k l. h (suc (suc k)) (omega arith)) (omega arith) in
-    let a : (x * 256 + y) / 256 ≡ x = omega arith in
-    let b : (x * 256 + y) % 256 ≡ y = omega arith in
-    ap (λ t. t ∷ (x * 256 + y) % 256 ∷ value_bytes (values bs)) a ∙ ap (λ t. x ∷ t ∷ value_bytes (values bs)) b ∙ ap (λ t. x ∷ y ∷ t) rest
+    let low : y < 256 = h 1 (omega arith) in
+    grind (arith, value_bytes_values bs (λ k l. h (suc (suc k)) (omega arith)))
 
 pub values_small : (bs : List ℕ) → Bytes bs → AllByRecursion (λ v. v < 65536) (values bs)
 values_small [] h = tt
 values_small (x ∷ []) h = tt
-values_small (x ∷ y ∷ bs) h =
-    let lx : x < 256 = h 0 (omega arith) in
-    let ly : y < 256 = h 1 (omega arith) in
-    (omega arith, values_small bs (λ k l. h (suc (suc k)) (omega arith)))
+values_small (x ∷ y ∷ bs) h = (omega (arith, h 0, h 1), values_small bs (λ k l. h (suc (suc k)) (omega arith)))

@@ -7,6 +7,7 @@ use Rattle.std.proofs.ByRecursion.{All-map, All-weaker}
 use Rattle.std.proofs.lemmas.List.Sorted.{length_permutation}
 use Rattle.std.proofs.lemmas.Bool.{cases_eq, cases_lt}
 use Rattle.std.proofs.lemmas.List.FromFn.{length-range_with_len, get_or-range_with_len}
+use Rattle.std.proofs.lemmas.Bool.Decides.{nat_tests}
 use Rattle.words.specs.Grammar.{StreamLink, real, virtual, StreamTable, Stream}
 use Rattle.words.specs.Reading.{links_in, bytes_in}
 use Rattle.data_bytes.proofs.ValueLists.{length-value_bytes}
@@ -41,22 +42,13 @@ has_target (k ∷ ls) l h =
 
 distinct_from : (n : ℕ) (vs : List ℕ) → AllByRecursion (λ v. v < n) vs → ((v : ℕ) → v < n → count_of v vs ≤ 1) → Distinct vs
 distinct_from n [] b h = tt
-distinct_from n (u ∷ vs) b h = (
-  let o = one_same u u refl in let l = h u b.0 in omega arith,
-  distinct_from n vs b.1 (λ v l. let k = h v l in omega arith),
-)
+distinct_from n (u ∷ vs) b h = (grind (arith, nat_tests, h u b.0), distinct_from n vs b.1 (λ v l. omega (arith, h v l)))
 
 -- SUMS WITH FACTORS
 module _ (x g : ℕ → ℕ) where
   scaled_none : (a n : ℕ) → sum_by g (range_with_len a n) ≡ 0 → sum_by (λ u. x u * g u) (range_with_len a n) ≡ 0
   scaled_none a zero e = refl
-  scaled_none a (suc n) e =
-      let c = sum_by-cons g a (range_with_len (a + 1) n) in
-      let d = sum_by-cons (λ u. x u * g u) a (range_with_len (a + 1) n) in
-      let z : g a ≡ 0 = omega arith in
-      let p : x a * g a ≡ 0 = ap (λ k. x a * k) z ∙ mul-zero (x a) in
-      let r = scaled_none (a + 1) n (omega arith) in
-      omega arith
+  scaled_none a (suc n) e = grind (arith, sum_by-cons g a (range_with_len (a + 1) n), sum_by-cons (λ u. x u * g u) a (range_with_len (a + 1) n), mul-zero (x a), scaled_none (a + 1) n)
 
   term_le : (a n u : ℕ) → a ≤ u → u < a + n → g u ≤ sum_by g (range_with_len a n)
   term_le a n u l k =
@@ -69,30 +61,13 @@ module _ (x g : ℕ → ℕ) where
   scaled_one a (suc n) u l k p e =
       let c = sum_by-cons g a (range_with_len (a + 1) n) in
       let d = sum_by-cons (λ v. x v * g v) a (range_with_len (a + 1) n) in
-      ⊎_elim
-      (λ (i : a ≡ u).
-      let w : g a ≡ g u = ap g i in
-      let z : g a ≡ 1 = omega arith in
-      let m : x a * g a ≡ x a = ap (λ y. x a * y) z ∙ mul-one (x a) in
-      let y : x a ≡ x u = ap x i in
-      let r = scaled_none (a + 1) n (omega arith) in
-      omega arith)
-      (λ (o : a ≡ u → ⊥).
-      let t = term_le (a + 1) n u (omega arith) (omega arith) in
-      let z : g a ≡ 0 = omega arith in
-      let m : x a * g a ≡ 0 = ap (λ y. x a * y) z ∙ mul-zero (x a) in
-      let r = scaled_one (a + 1) n u (omega arith) (omega arith) p (omega arith) in
-      omega arith)
-      (cases_eq a u)
+      let once : g a ≡ 1 → x a * g a ≡ x a = λ z. ap (λ y. x a * y) z ∙ mul-one (x a) in
+      let never : g a ≡ 0 → x a * g a ≡ 0 = λ z. ap (λ y. x a * y) z ∙ mul-zero (x a) in
+      grind (arith, cases_eq a u, c, d, once, never, scaled_none (a + 1) n, term_le (a + 1) n u, scaled_one (a + 1) n u)
 
   scaled_all : (a n : ℕ) → ((u : ℕ) → a ≤ u → u < a + n → x u ≡ 1) → sum_by (λ v. x v * g v) (range_with_len a n) ≡ sum_by g (range_with_len a n)
   scaled_all a zero h = refl
-  scaled_all a (suc n) h =
-      let c = sum_by-cons g a (range_with_len (a + 1) n) in
-      let d = sum_by-cons (λ v. x v * g v) a (range_with_len (a + 1) n) in
-      let m : x a * g a ≡ g a = ap (λ y. y * g a) (h a (omega arith) (omega arith)) ∙ one-mul (g a) in
-      let r = scaled_all (a + 1) n (λ u l k. h u (omega arith) (omega arith)) in
-      omega arith
+  scaled_all a (suc n) h = grind (arith, sum_by-cons g a (range_with_len (a + 1) n), sum_by-cons (λ v. x v * g v) a (range_with_len (a + 1) n), h a, one-mul (g a), scaled_all (a + 1) n (λ u l k. h u (omega arith) (omega arith)))
 
 -- a sum over tables is one over numbers, each as often as it stands there
 by_number : (g : ℕ → ℕ) (n : ℕ) (vs : List ℕ) → AllByRecursion (λ v. v < n) vs → sum_by g vs ≡ sum_by (λ u. count_of u vs * g u) (range_with_len 0 n)

@@ -4,7 +4,8 @@ use Rattle.std.specs.Option.{option_to_list}
 use Rattle.std.specs.List.{flat_map, AllByRecursion}
 use Rattle.std.proofs.lemmas.List.{append-nil, take_at, drop_at}
 use Rattle.std.proofs.ByRecursion.{All-append}
-use Rattle.std.proofs.lemmas.Bool.{cases_Bool, le-leb, lt-leb, cond-true, cond-false, cond_both}
+use Rattle.std.proofs.lemmas.Bool.{cases_Bool, cond-true, cond-false, cond_both}
+use Rattle.std.proofs.lemmas.Bool.Decides.{nat_tests}
 use Rattle.model.specs.Forest.{Ligature, LigatureSet, Subtable}
 use Rattle.model.specs.Cutting.{Entry, entries_from, sets_from, entries, parts, cuts_before, cuts}
 use Rattle.model.specs.Splitting.{Group, alone, with_first, join_group, groups, comes_here, sets_of, new_sets, pieces, after_pieces, extended, divided, after_divided, split_all, cut_vertices}
@@ -66,19 +67,7 @@ is_new first t = leb first t.vertex
 
 pub new_sets_lem : (first : ℕ) (own : ℕ → Bool) (fresh : ℕ) (us : List Group) → first ≤ fresh → OldGroups first us → filter (is_new first) (sets_of own fresh us) ≡ new_only own fresh us
 new_sets_lem first own fresh [] l h = refl
-new_sets_lem first own fresh (t ∷ us) l h =
-    ⊎_elim
-    (λ (e : own t.set ≡ true).
-    ap (filter (is_new first)) (cond-true (own t.set) (new_set t.owner t ∷ sets_of own fresh us) (new_set fresh t ∷ sets_of own (suc fresh) us) e)
-    ∙ cond-false (leb first t.owner) (new_set t.owner t ∷ filter (is_new first) (sets_of own fresh us)) (filter (is_new first) (sets_of own fresh us)) (lt-leb first t.owner h.0)
-    ∙ new_sets_lem first own fresh us l h.1
-    ∙ sym (cond-true (own t.set) (new_only own fresh us) (new_set fresh t ∷ new_only own (suc fresh) us) e))
-    (λ (e : own t.set ≡ false).
-    ap (filter (is_new first)) (cond-false (own t.set) (new_set t.owner t ∷ sets_of own fresh us) (new_set fresh t ∷ sets_of own (suc fresh) us) e)
-    ∙ cond-true (leb first fresh) (new_set fresh t ∷ filter (is_new first) (sets_of own (suc fresh) us)) (filter (is_new first) (sets_of own (suc fresh) us)) (le-leb first fresh l)
-    ∙ ap (λ q. new_set fresh t ∷ q) (new_sets_lem first own (suc fresh) us (omega arith) h.1)
-    ∙ sym (cond-false (own t.set) (new_only own fresh us) (new_set fresh t ∷ new_only own (suc fresh) us) e))
-    (cases_Bool (own t.set))
+new_sets_lem first own fresh (t ∷ us) l h = grind (arith, nat_tests, new_sets_lem first own fresh us l h.1, new_sets_lem first own (suc fresh) us (omega arith) h.1)
 
 abbrev vertex_in : LigatureSet → ℕ
 vertex_in t = t.vertex
@@ -101,19 +90,7 @@ new_numbers own fresh (t ∷ us) =
 
 pub new_length : (own : ℕ → Bool) (fresh : ℕ) (us : List Group) → length (new_only own fresh us) ≡ new_sets own us
 new_length own fresh [] = refl
-new_length own fresh (t ∷ us) =
-    ⊎_elim
-    (λ (e : own t.set ≡ true).
-    let a : length (new_only own fresh (t ∷ us)) ≡ length (new_only own fresh us) = ap length (cond-true (own t.set) (new_only own fresh us) (new_set fresh t ∷ new_only own (suc fresh) us) e) in
-    let b : cond {A = ℕ} (own t.set) 0 1 ≡ 0 = cond-true (own t.set) 0 1 e in
-    let c = new_length own fresh us in
-    omega arith)
-    (λ (e : own t.set ≡ false).
-    let a : length (new_only own fresh (t ∷ us)) ≡ suc (length (new_only own (suc fresh) us)) = ap length (cond-false (own t.set) (new_only own fresh us) (new_set fresh t ∷ new_only own (suc fresh) us) e) in
-    let b : cond {A = ℕ} (own t.set) 0 1 ≡ 1 = cond-false (own t.set) 0 1 e in
-    let c = new_length own (suc fresh) us in
-    omega arith)
-    (cases_Bool (own t.set))
+new_length own fresh (t ∷ us) = grind (arith, new_length own fresh us, new_length own (suc fresh) us)
 
 -- PIECES
 module _ (first : ℕ) (wrote : ℕ → List ℕ) (kept : List Entry) where

@@ -48,20 +48,10 @@ own_pieces w kept [] = 0
 own_pieces w kept (p ∷ later) = tally (own_here (comes_here kept later) w) (groups p) + own_pieces w kept later
 
 stays_or_goes : (k p l : Bool) (x : ℕ) → cond p (cond (not k && not l) x 0) 0 + cond k 0 (cond l x 0) ≡ cond k 0 (cond (p || l) x 0)
-stays_or_goes true true true x = omega arith
-stays_or_goes true true false x = omega arith
-stays_or_goes true false true x = omega arith
-stays_or_goes true false false x = omega arith
-stays_or_goes false true true x = omega arith
-stays_or_goes false true false x = omega arith
-stays_or_goes false false true x = omega arith
-stays_or_goes false false false x = omega arith
+stays_or_goes k p l x = grind arith
 
 kept_or_not : (k l : Bool) (x : ℕ) → cond k x 0 + cond k 0 (cond l x 0) ≡ cond (k || l) x 0
-kept_or_not true true x = omega arith
-kept_or_not true false x = omega arith
-kept_or_not false true x = omega arith
-kept_or_not false false x = omega arith
+kept_or_not k l x = grind arith
 
 module _ (ts : List LigatureSet) (w : ℕ → ℕ) (kept : List Entry) where
   abbrev goes : List (List Entry) → ℕ → LigatureSet → ℕ
@@ -71,8 +61,7 @@ module _ (ts : List LigatureSet) (w : ℕ → ℕ) (kept : List Entry) where
   all_zero f h = sets_same f (λ k t. 0) h 0 ts ∙ sets_none 0 ts
 
   both_zero : (b : Bool) → cond {A = ℕ} b 0 0 ≡ 0
-  both_zero true = refl
-  both_zero false = refl
+  both_zero b = grind arith
 
   pub own_goes : (ps : List (List Entry)) → AllByRecursion (Proper ts) ps → own_pieces w kept ps ≡ tally_sets (λ k t. cond (has k kept) 0 (cond (any_has k ps) (w t.vertex) 0)) 0 ts
   own_goes [] h = sym (all_zero (goes []) (λ k t. both_zero (has k kept)))

@@ -1,10 +1,11 @@
 -- The glyphs of a part: a stretch of the subtable's, of just the sets that the part has entries of; what neighbouring parts share.
-use Rattle.std.proofs.Common.{◌≡◌, ℕ, zero, suc, ◌+◌, ◌<◌, ◌≤◌, true, false, ◌||◌, eqb, ltb, ◌⊎◌, List, [], ◌∷◌, ◌++◌, map, length, sym, refl, ap, ◌∙◌, subst, inl, inr, ⊎_elim, append_assoc, arith}
+use Rattle.std.proofs.Common.{◌≡◌, ℕ, zero, suc, ◌+◌, ◌<◌, ◌≤◌, true, false, ◌||◌, eqb, ◌⊎◌, List, [], ◌∷◌, ◌++◌, map, length, sym, refl, ap, ◌∙◌, subst, inl, inr, ⊎_elim, append_assoc, arith}
 use mathlib.Core.List.{map-map, map-append}
 use Rattle.std.specs.List.{range_with_len, AllByRecursion}
 use Rattle.std.proofs.ByRecursion.{All-get_or}
-use Rattle.std.proofs.lemmas.Bool.{cases_Bool, cases_eq, eq-eqb, ne_eqb, eqb-true, cond-true, cond-false, both_ways, or_left, or_right, or_cases, and_parts, and_from, ltb-true}
+use Rattle.std.proofs.lemmas.Bool.{cases_Bool, eq-eqb, ne_eqb, eqb-true, cond-true, cond-false, both_ways, or_cases}
 use Rattle.std.proofs.Math.Bool.{or_self_left}
+use Rattle.std.proofs.lemmas.Bool.Decides.{nat_tests}
 use Rattle.coverage.specs.Glyphs.{above, rises, GlyphList}
 use Rattle.coverage.proofs.Lists.{listed, above_rises}
 use Rattle.model.specs.Forest.{LigatureSet, Subtable}
@@ -185,19 +186,11 @@ has-groups i (e ∷ es) =
 
 among_in : (i a n : ℕ) → a ≤ i → i < a + n → among i (range_with_len a n) ≡ true
 among_in i a zero lo hi = absurd (omega arith)
-among_in i a (suc n) lo hi =
-    ⊎_elim
-    (λ q. or_left (eqb a i) (among i (range_with_len (a + 1) n)) (eq-eqb a i q))
-    (λ ne. or_right (eqb a i) (among i (range_with_len (a + 1) n)) (among_in i (a + 1) n (omega arith) (omega arith)))
-    (cases_eq a i)
+among_in i a (suc n) lo hi = grind (arith, nat_tests, among_in i (a + 1) n)
 
 among_out : (i a n : ℕ) → among i (range_with_len a n) ≡ true → (a ≤ i) × (i < a + n)
-among_out i a zero h = absurd (both_ways false refl h)
-among_out i a (suc n) h =
-    ⊎_elim
-    (λ b. let q = eqb-true a i b in (omega arith, omega arith))
-    (λ b. let r = among_out i (a + 1) n b in (omega (arith, r.0), omega (arith, r.1)))
-    (or_cases (eqb a i) (among i (range_with_len (a + 1) n)) h)
+among_out i a zero h = cc
+among_out i a (suc n) h = grind (arith, nat_tests, among_out i (a + 1) n)
 
 -- A RUN OF THE SUBTABLE'S ENTRIES
 marks_first : (i : ℕ) (ts : List LigatureSet) → map (λ (m : Mark). m.2) (marks i ts) ≡ map (λ (t : LigatureSet). t.first) ts
@@ -261,26 +254,16 @@ covers_stretch s p c =
 
 -- AT MOST ONE GLYPH IN BOTH, where glyphs rise
 above_among : (a x : ℕ) (ys : List ℕ) → above a ys ≡ true → among x ys ≡ true → a < x
-above_among a x [] up h = absurd (both_ways false refl h)
-above_among a x (y ∷ ys) up h =
-    let p = and_parts (ltb a y) (above y ys) up in
-    let lt = ltb-true a y p.0 in
-    ⊎_elim
-    (λ b. let q = eqb-true y x b in omega arith)
-    (λ b. let r = above_among y x ys p.1 b in omega arith)
-    (or_cases (eqb y x) (among x ys) h)
+above_among a x [] up h = cc
+above_among a x (y ∷ ys) up h = grind (arith, nat_tests, above_among y x ys)
 
 among_back : (x : ℕ) (xs ys : List ℕ) → among x ys ≡ true → among x (xs ++ ys) ≡ true
 among_back x [] ys h = h
-among_back x (y ∷ xs) ys h = or_right (eqb y x) (among x (xs ++ ys)) (among_back x xs ys h)
+among_back x (y ∷ xs) ys h = grind (arith, among_back x xs ys)
 
 among_push : (x : ℕ) (xs : List ℕ) (g : ℕ) → among x (xs ++ g ∷ []) ≡ true → (among x xs ≡ true) ⊎ (g ≡ x)
-among_push x [] g h = ⊎_elim (λ b. inr (eqb-true g x b)) (λ b. absurd (both_ways false refl b)) (or_cases (eqb g x) false h)
-among_push x (y ∷ xs) g h =
-    ⊎_elim
-    (λ b. inl (or_left (eqb y x) (among x xs) b))
-    (λ b. ⊎_elim (λ r. inl (or_right (eqb y x) (among x xs) r)) (λ q. inr q) (among_push x xs g b))
-    (or_cases (eqb y x) (among x (xs ++ g ∷ [])) h)
+among_push x [] g h = grind (arith, nat_tests)
+among_push x (y ∷ xs) g h = grind (arith, nat_tests, among_push x xs g)
 
 rises_back : (xs ys : List ℕ) → rises (xs ++ ys) ≡ true → rises ys ≡ true
 rises_back [] ys up = up
@@ -289,9 +272,7 @@ rises_back (x ∷ xs) ys up = rises_back xs ys (above_rises x (xs ++ ys) up)
 rises_front : (xs ys : List ℕ) → rises (xs ++ ys) ≡ true → rises xs ≡ true
 rises_front [] ys up = refl
 rises_front (x ∷ []) ys up = refl
-rises_front (x ∷ y ∷ xs) ys up =
-    let p = and_parts (ltb x y) (above y (xs ++ ys)) up in
-    and_from (ltb x y) (above y xs) p.0 (rises_front (y ∷ xs) ys p.1)
+rises_front (x ∷ y ∷ xs) ys up = grind (arith, nat_tests, rises_front (y ∷ xs) ys)
 
 rises_apart : (xs ys : List ℕ) → rises (xs ++ ys) ≡ true → (x : ℕ) → among x xs ≡ true → among x ys ≡ true → ⊥
 rises_apart [] ys up x h k = both_ways false refl h

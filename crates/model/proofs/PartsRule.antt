@@ -1,5 +1,5 @@
 -- The parts of a run of entries: they keep the cutting rule, and no other parts do.
-use Rattle.std.proofs.Common.{◌≡◌, ℕ, zero, suc, ◌+◌, ◌<◌, ◌≤◌, Bool, true, false, cond, List, [], ◌∷◌, ◌++◌, length, get_or, Some, None, sum_by, Option, sym, refl, ap, ◌∙◌, subst, ⊎_elim, append_assoc, append-nil, arith, length-append}
+use Rattle.std.proofs.Common.{◌≡◌, ℕ, zero, suc, ◌+◌, ◌<◌, ◌≤◌, Bool, cond, List, [], ◌∷◌, ◌++◌, length, get_or, Some, None, sum_by, Option, sym, refl, ap, ◌∙◌, subst, ⊎_elim, append_assoc, append-nil, arith, length-append}
 use Rattle.std.specs.List.{flat_map, AllByRecursion}
 use Rattle.std.proofs.ByRecursion.{All-get_or, All-from_get_or, All-weaker}
 use Rattle.std.proofs.lemmas.Bool.{cases_lt, le-leb, lt-leb, cond-true, cond-false}
@@ -217,8 +217,7 @@ module _ (c : ℕ) where
   no_cuts_lookup l a = no_cuts_all l.subtables a
 
 none_more : (b : Bool) (n : ℕ) → n + cond b 0 0 ≡ n
-none_more true n = omega arith
-none_more false n = omega arith
+none_more b n = grind arith
 
 -- NOTHING CHANGES without a cut
 module _ (c : ℕ) (wrapped : Bool) where

@@ -1,5 +1,5 @@
 -- The size of a run: one entry more, and runs that are parts of runs.
-use Rattle.std.proofs.Common.{◌≡◌, ◌+◌, ◌*◌, ◌≤◌, Bool, true, false, cond, List, [], ◌∷◌, ◌++◌, refl, arith}
+use Rattle.std.proofs.Common.{◌≡◌, ◌+◌, ◌*◌, ◌≤◌, Bool, cond, List, [], ◌∷◌, ◌++◌, refl, arith}
 use Rattle.std.proofs.lemmas.List.Sums.{sum_by-append, sum_by_push}
 use Rattle.model.specs.Cutting.{Entry, table_length, entry_size, touched, run_size}
 use Rattle.model.specs.CuttingLaws.{goes_on, Running}
@@ -25,8 +25,7 @@ touched_back (x ∷ xs) ys = let h = touched_back xs ys in omega arith
 
 -- SIZES
 four_times : (b : Bool) → 4 * cond b 0 1 ≡ cond b 0 4
-four_times true = refl
-four_times false = refl
+four_times b = grind arith
 
 pub run_size_none : run_size [] ≡ 6
 unfolding run_size
