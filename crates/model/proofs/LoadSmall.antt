@@ -1,8 +1,7 @@
 -- Small streams that are refused.
-use Rattle.std.proofs.Common.{◌≡◌, ℕ, zero, suc, ◌+◌, ◌<◌, ◌≤◌, cond, leb, List, [], ◌∷◌, length, Some, None, Option, sym, refl, ap, ◌∙◌, subst, arith}
-use Rattle.std.proofs.lemmas.Bool.{cond-true, le-leb}
+use Rattle.std.proofs.Common.{◌≡◌, ℕ, zero, suc, ◌<◌, ◌≤◌, List, [], ◌∷◌, length, None, Option, sym, refl, ap, subst, arith}
 use Rattle.std.proofs.lemmas.Option.{same_Some}
-use Rattle.refusals.specs.declared.Pool.TheVariants.{Vertices, Links, Bytes as Bytes'}
+use Rattle.std.proofs.lemmas.Bool.Decides.{nat_tests}
 use Rattle.refusals.specs.declared.Refusal.TheVariants.{BadShape}
 use Rattle.words.specs.Grammar.{StreamLink, virtual, StreamTable, Stream}
 use Rattle.words.proofs.Whole.{streams_spell_lem}
@@ -27,10 +26,7 @@ taking n = record { vertices = 1; links = n; bytes = 0 }
 
 -- room for one table and for so many links
 roomy : (caps : Capacities) (n : ℕ) → 0 < caps.vertices → n ≤ caps.links → short_of caps (taking n) ≡ None
-roomy caps n a b =
-    cond-true (leb (0 + 1) caps.vertices) (cond (leb (0 + n) caps.links) (cond (leb (0 + 0) caps.bytes) None (Some Bytes')) (Some Links)) (Some Vertices) (le-leb (0 + 1) caps.vertices (omega arith))
-    ∙ cond-true (leb (0 + n) caps.links) (cond (leb (0 + 0) caps.bytes) None (Some Bytes')) (Some Links) (le-leb (0 + n) caps.links (omega arith))
-    ∙ cond-true (leb (0 + 0) caps.bytes) None (Some Bytes') (le-leb (0 + 0) caps.bytes (omega arith))
+roomy caps n a b = grind (arith, nat_tests)
 
 only_table : (ls : List StreamLink) (rs : List ℕ) (v : ℕ) (t : StreamTable) → TableAt (empty_stream ls rs) v t → (v ≡ 0) × (t ≡ empty_table ls)
 only_table ls rs zero t e = (refl, sym (same_Some _ _ e))

@@ -134,22 +134,8 @@ SomeGroup u = 0 < length u.ligatures
 new_need : (own : ℕ → Bool) (fresh : ℕ) (us : List Group) → AllByRecursion SomeGroup us → tally_up (λ v. 4) fresh (new_sets own us) ≤ tally reserved (new_set_parts own fresh us)
 new_need own fresh [] h = omega arith
 new_need own fresh (t ∷ us) h =
-    ⊎_elim
-    (λ (e : own t.set ≡ true).
-    let z : 0 + new_sets own us ≡ new_sets own us = omega arith in
-    let a : tally_up (λ v. 4) fresh (new_sets own (t ∷ us)) ≡ tally_up (λ v. 4) fresh (new_sets own us) = ap (λ n. tally_up (λ v. 4) fresh (n + new_sets own us)) (cond-true (own t.set) 0 1 e) ∙ ap (tally_up (λ v. 4) fresh) z in
-    let b : tally reserved (new_set_parts own fresh (t ∷ us)) ≡ tally reserved (new_set_parts own fresh us) = ap (tally reserved) (cond-true (own t.set) (new_set_parts own fresh us) (part fresh (2 + 2 * length t.ligatures) ∷ new_set_parts own (suc fresh) us) e) in
-    let c = new_need own fresh us h.1 in
-    omega arith)
-    (λ (e : own t.set ≡ false).
-    let z : 1 + new_sets own us ≡ suc (new_sets own us) = omega arith in
-    let a : tally_up (λ v. 4) fresh (new_sets own (t ∷ us)) ≡ 4 + tally_up (λ v. 4) (suc fresh) (new_sets own us) = ap (λ n. tally_up (λ v. 4) fresh (n + new_sets own us)) (cond-false (own t.set) 0 1 e) ∙ ap (tally_up (λ v. 4) fresh) z in
-    let b : tally reserved (new_set_parts own fresh (t ∷ us)) ≡ 2 + 2 * length t.ligatures + tally reserved (new_set_parts own (suc fresh) us)
-    = ap (tally reserved) (cond-false (own t.set) (new_set_parts own fresh us) (part fresh (2 + 2 * length t.ligatures) ∷ new_set_parts own (suc fresh) us) e) in
-    let some : 0 < length t.ligatures = h.0 in
-    let c = new_need own (suc fresh) us h.1 in
-    omega arith)
-    (cases_Bool (own t.set))
+    let each = tally_up_each 4 in
+    grind (arith, each fresh (new_sets own (t ∷ us)), each fresh (new_sets own us), each (suc fresh) (new_sets own us), h.0, new_need own fresh us h.1, new_need own (suc fresh) us h.1)
 
 pieces_need : (wrote : ℕ → List ℕ) (c : ℕ) (kept : List Entry) (fresh : ℕ) (ps : List (List Entry)) → 0 < c → AllByRecursion Short (pieces wrote kept fresh ps)
     → added_pieces byte_weights wrote kept fresh ps ≤ tally reserved (piece_parts c kept fresh ps)

@@ -5,6 +5,7 @@ use Rattle.std.proofs.lemmas.List.{append_assoc}
 use Rattle.std.proofs.ByRecursion.{All-append, All-weaker}
 use Rattle.std.proofs.lemmas.Bool.{eq-eqb, ne_eqb, cond-true, cond-false, cond_both, or_right}
 use Rattle.std.proofs.Math.Bool.{or_assoc}
+use Rattle.std.proofs.lemmas.Bool.Decides.{nat_tests}
 use Rattle.model.specs.Forest.{Ligature, LigatureSet}
 use Rattle.model.specs.Cutting.{Entry, entries_from, sets_from, run_size, parts_from, parts}
 use Rattle.model.specs.Splitting.{has, any_has}
@@ -95,19 +96,15 @@ tally_sets h i [] = 0
 tally_sets h i (t ∷ ts) = h i t + tally_sets h (suc i) ts
 
 pub sets_same : (f g : ℕ → LigatureSet → ℕ) → ((i : ℕ) (t : LigatureSet) → f i t ≡ g i t) → (i : ℕ) (ts : List LigatureSet) → tally_sets f i ts ≡ tally_sets g i ts
-sets_same f g h i [] = refl
-sets_same f g h i (t ∷ ts) =
-    let a = h i t in
-    let b = sets_same f g h (suc i) ts in
-    omega arith
+sets_same f g h i ts = λ j. tally_sets (λ k t. h k t j) i ts
 
 pub sets_plus : (f g : ℕ → LigatureSet → ℕ) (i : ℕ) (ts : List LigatureSet) → tally_sets (λ k t. f k t + g k t) i ts ≡ tally_sets f i ts + tally_sets g i ts
 sets_plus f g i [] = refl
-sets_plus f g i (t ∷ ts) = let b = sets_plus f g (suc i) ts in omega arith
+sets_plus f g i (t ∷ ts) = omega (arith, sets_plus f g (suc i) ts)
 
 pub sets_none : (i : ℕ) (ts : List LigatureSet) → tally_sets (λ k t. 0) i ts ≡ 0
 sets_none i [] = refl
-sets_none i (t ∷ ts) = let b = sets_none (suc i) ts in omega arith
+sets_none i (t ∷ ts) = omega (arith, sets_none (suc i) ts)
 
 -- the value of h at the set of an entry, by its index
 abbrev at_index : ℕ → (ℕ → ℕ → ℕ) → ℕ → LigatureSet → ℕ
@@ -120,22 +117,10 @@ pub record Owned (i : ℕ) (ts : List LigatureSet) (e : Entry) : Type 0 where
 
 past : (j : ℕ) (h : ℕ → ℕ → ℕ) (i : ℕ) (ts : List LigatureSet) → j < i → tally_sets (at_index j h) i ts ≡ 0
 past j h i [] l = refl
-past j h i (t ∷ ts) l =
-    let a : at_index j h i t ≡ 0 = cond-false (eqb j i) (h i t.vertex) 0 (ne_eqb j i (λ e. omega arith)) in
-    let b = past j h (suc i) ts (omega arith) in
-    omega arith
+past j h i (t ∷ ts) l = grind (arith, nat_tests, past j h (suc i) ts)
 
 owned_later : (i : ℕ) (t : LigatureSet) (ts : List LigatureSet) (e : Entry) → Owned (suc i) ts e → Owned i (t ∷ ts) e
-owned_later i t ts e o =
-    record {
-      late = let l = o.late in omega arith;
-      tells =
-          λ h.
-          let l = o.late in
-          let a : at_index e.set h i t ≡ 0 = cond-false (eqb e.set i) (h i t.vertex) 0 (ne_eqb e.set i (λ q. omega arith)) in
-          let b = o.tells h in
-          omega arith;
-    }
+owned_later i t ts e o = record { late = omega (arith, o.late); tells = λ h. grind (arith, nat_tests, o.late, o.tells h) }
 
 owned_set : (i j : ℕ) (t : LigatureSet) (ts : List LigatureSet) (gs : List Ligature) → AllByRecursion (Owned i (t ∷ ts)) (entries_from i j t gs)
 owned_set i j t ts [] = tt

@@ -1,13 +1,14 @@
 -- The groups of a part, by set: which get their own vertex and how many get a new one.
-use Rattle.std.proofs.Common.{◌≡◌, ℕ, ◌+◌, ◌<◌, true, false, cond, ◌||◌, eqb, List, [], ◌∷◌, sym, refl, ap, ◌∙◌, ⊎_elim, arith}
+use Rattle.std.proofs.Common.{◌≡◌, ℕ, ◌+◌, ◌<◌, false, cond, ◌||◌, eqb, List, [], ◌∷◌, sym, refl, ap, ◌∙◌, ⊎_elim, arith}
 use Rattle.std.specs.List.{AllByRecursion}
-use Rattle.std.proofs.lemmas.Bool.{cases_Bool, cases_eq, eqb-true, eq-eqb, ne_eqb, cond-true, cond-false, cond_both, or_from}
+use Rattle.std.proofs.lemmas.Bool.{eqb-true, eq-eqb, ne_eqb, cond-true, cond-false, cond_both}
 use Rattle.std.proofs.Math.Bool.{or_self_left}
+use Rattle.std.proofs.lemmas.Bool.Decides.{nat_tests}
 use Rattle.model.specs.Forest.{LigatureSet}
 use Rattle.model.specs.Cutting.{Entry}
 use Rattle.model.specs.Splitting.{Group, alone, with_first, join_group, groups, has}
 use Rattle.model.proofs.NumberSums.{tally}
-use Rattle.model.proofs.NumberEntries.{Run, tally_sets, sets_same, sets_plus, sets_none, Owned, opening, opens_here, opens_not}
+use Rattle.model.proofs.NumberEntries.{Run, tally_sets, sets_same, sets_plus, sets_none, Owned, opening}
 
 -- the groups begin with the set i
 abbrev Leads : ℕ → List Group → Type 0
@@ -36,10 +37,8 @@ join_other h e i (t ∷ ts) l q =
 
 -- no entry of a run is of an earlier set
 has_not : (i : ℕ) (e : Entry) (es : List Entry) → Run (e ∷ es) → i < e.set → has i (e ∷ es) ≡ false
-has_not i e [] r l = or_from (eqb e.set i) false (ne_eqb e.set i (λ q. omega arith)) refl
-has_not i e (f ∷ fs) r l =
-    or_from (eqb e.set i) (has i (f ∷ fs)) (ne_eqb e.set i (λ q. omega arith))
-    (has_not i f fs r.1 (⊎_elim (λ (s : (e.set ≡ f.set) × (0 < f.place)). let q = s.0 in omega arith) (λ (s : (e.set < f.set) × (f.place ≡ 0)). let q = s.0 in omega arith) r.0))
+has_not i e [] r l = grind (arith, nat_tests)
+has_not i e (f ∷ fs) r l = grind (arith, nat_tests, r.0, has_not i f fs r.1)
 
 -- groups of a run, summed up by the indices of the sets
 module _ (ts : List LigatureSet) (h : ℕ → ℕ → ℕ) where
@@ -48,18 +47,7 @@ module _ (ts : List LigatureSet) (h : ℕ → ℕ → ℕ) where
 
   apart : (e : Entry) (es : List Entry) → ((k : ℕ) → e.set ≡ k → has k es ≡ false) → (k : ℕ) (t : LigatureSet)
       → present (e ∷ es) k t ≡ cond (eqb e.set k) (h k t.vertex) 0 + present es k t
-  apart e es n k t =
-      ⊎_elim
-      (λ (y : eqb e.set k ≡ true).
-      let a : present (e ∷ es) k t ≡ h k t.vertex = ap (λ b. cond (b || has k es) (h k t.vertex) 0) y in
-      let b : cond (eqb e.set k) (h k t.vertex) 0 ≡ h k t.vertex = cond-true (eqb e.set k) (h k t.vertex) 0 y in
-      let c : present es k t ≡ 0 = cond-false (has k es) (h k t.vertex) 0 (n k (eqb-true e.set k y)) in
-      omega arith)
-      (λ (y : eqb e.set k ≡ false).
-      let a : present (e ∷ es) k t ≡ present es k t = ap (λ b. cond (b || has k es) (h k t.vertex) 0) y in
-      let b : cond (eqb e.set k) (h k t.vertex) 0 ≡ 0 = cond-false (eqb e.set k) (h k t.vertex) 0 y in
-      omega arith)
-      (cases_Bool (eqb e.set k))
+  apart e es n k t = grind (arith, nat_tests, n k)
 
   one_more : (e : Entry) (es : List Entry) → Owned 0 ts e → ((k : ℕ) → e.set ≡ k → has k es ≡ false)
       → tally_sets (present (e ∷ es)) 0 ts ≡ h e.set e.owner + tally_sets (present es) 0 ts
@@ -102,18 +90,7 @@ pub within_so : (e : Entry) (es : List Entry) → 0 < e.place → within (e ∷ 
 within_so e es h = cond-false (eqb e.place 0) 0 1 (ne_eqb e.place 0 (λ q. omega arith))
 
 either : (e : Entry) (es : List Entry) → opening e + within (e ∷ es) ≡ 1
-either e es =
-    ⊎_elim
-    (λ (q : e.place ≡ 0).
-    let a = opens_here e q in
-    let b = within_not e es q in
-    omega arith)
-    (λ (n : e.place ≡ 0 → ⊥).
-    let z : 0 < e.place = omega arith in
-    let a = opens_not e z in
-    let b = within_so e es z in
-    omega arith)
-    (cases_eq e.place 0)
+either e es = grind (arith, nat_tests)
 
 abbrev each_one : ℕ → ℕ → ℕ
 each_one i v = 1

@@ -97,18 +97,7 @@ new_count kept (p ∷ later) = new_sets (comes_here kept later) (groups p) + new
 
 new_or_own : (own : ℕ → Bool) (us : List Group) → new_sets own us + tally (own_here own (λ v. 1)) us ≡ tally (λ (t : Group). 1) us
 new_or_own own [] = refl
-new_or_own own (t ∷ us) =
-    let a = new_or_own own us in
-    ⊎_elim
-    (λ (e : own t.set ≡ true).
-    let b : cond {A = ℕ} (own t.set) 0 1 ≡ 0 = cond-true (own t.set) 0 1 e in
-    let c : cond {A = ℕ} (own t.set) 1 0 ≡ 1 = cond-true (own t.set) 1 0 e in
-    omega arith)
-    (λ (e : own t.set ≡ false).
-    let b : cond {A = ℕ} (own t.set) 0 1 ≡ 1 = cond-false (own t.set) 0 1 e in
-    let c : cond {A = ℕ} (own t.set) 1 0 ≡ 0 = cond-false (own t.set) 1 0 e in
-    omega arith)
-    (cases_Bool (own t.set))
+new_or_own own (t ∷ us) = grind (arith, new_or_own own us)
 
 new_and_own : (kept : List Entry) (ps : List (List Entry)) → new_count kept ps + own_pieces (λ v. 1) kept ps ≡ tally (λ p. tally (λ (t : Group). 1) (groups p)) ps
 new_and_own kept [] = refl
