@@ -51,13 +51,7 @@ sets_of_all Q own fresh (t ∷ ts) h =
 
 pub length_sets_of : (own : ℕ → Bool) (fresh : ℕ) (ts : List Group) → length (sets_of own fresh ts) ≡ length ts
 length_sets_of own fresh [] = refl
-length_sets_of own fresh (t ∷ ts) =
-    cond_both (own t.set)
-    (record { vertex = t.owner; first = t.first; ligatures = t.ligatures } ∷ sets_of own fresh ts)
-    (record { vertex = fresh; first = t.first; ligatures = t.ligatures } ∷ sets_of own (suc fresh) ts)
-    (λ (u : List LigatureSet). length u ≡ suc (length ts))
-    (λ q. ap suc (length_sets_of own fresh ts))
-    (λ q. ap suc (length_sets_of own (suc fresh) ts))
+length_sets_of own fresh (t ∷ ts) = grind (arith, length_sets_of own fresh ts, length_sets_of own (suc fresh) ts)
 
 -- an entry is of none of the sets behind its own
 later_than_set : (e : Entry) (j : ℕ) (t : LigatureSet) (gs : List Ligature) (rest : List Entry) → e.set < j → same_set e rest ≡ false → same_set e (entries_from j 0 t gs ++ rest) ≡ false

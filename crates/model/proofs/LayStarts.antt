@@ -1,8 +1,9 @@
 -- Tables laid end to end: each vertex's start is where its table stands, if no vertex stands twice.
-use Rattle.std.proofs.Common.{◌≡◌, ℕ, ◌+◌, ◌<◌, ◌≤◌, eqb, List, [], ◌∷◌, ◌++◌, map, length, sum_by, sym, refl, ◌∙◌, subst, ⊎_elim, append_assoc, add-zero, arith, length-append}
+use Rattle.std.proofs.Common.{◌≡◌, ℕ, ◌+◌, ◌<◌, ◌≤◌, eqb, List, [], ◌∷◌, ◌++◌, map, length, sum_by, sym, refl, ◌∙◌, subst, append_assoc, add-zero, arith, length-append}
 use Rattle.std.specs.List.{flat_map, AllByRecursion}
 use Rattle.std.proofs.lemmas.List.Sums.{sum_by-cons}
-use Rattle.std.proofs.lemmas.Bool.{cases_eq, eq-eqb, ne_eqb, cond-true, cond-false}
+use Rattle.std.proofs.lemmas.Bool.{eq-eqb, cond-true}
+use Rattle.std.proofs.lemmas.Bool.Decides.{nat_tests}
 use Rattle.model.specs.Tables.{Slot, Placed, vertex_of, count_of}
 use Rattle.model.specs.Sound.{Distinct}
 use Rattle.model.specs.Writing.{Start, starts_from, start_of, filled}
@@ -82,12 +83,7 @@ module _ (Q : Placed → Type 0) (ss : List Start) (bs : List ℕ) where
   StartsAs p xs = (v : ℕ) → 0 < count_of v (map vertex_of xs) → start_of ss v ≡ start_of (starts_from p xs) v
 
   starts_on : (p : ℕ) (x : Placed) (xs : List Placed) → count_of x.vertex (map vertex_of xs) ≡ 0 → StartsAs p (x ∷ xs) → StartsAs (p + size x) xs
-  starts_on p x xs none h v some =
-      let i = h v (omega arith) in
-      ⊎_elim
-      (λ same. let z = subst (λ (t : ℕ). count_of t (map vertex_of xs) ≡ 0) same none in absurd (omega arith))
-      (λ other. i ∙ cond-false (eqb x.vertex v) p (start_of (starts_from (p + size x) xs) v) (ne_eqb x.vertex v other))
-      (cases_eq x.vertex v)
+  starts_on p x xs none h v some = grind (arith, nat_tests, h v)
 
   pub laid : (p : ℕ) (q : List ℕ) (xs : List Placed) → bs ≡ q ++ flat_map (filled ss) xs → length q ≡ p → Distinct (map vertex_of xs) → AllByRecursion Fits xs → AllByRecursion Q xs → StartsAs p xs → Laid p xs
   laid p q [] e l d f m s = tt

@@ -1,10 +1,11 @@
 -- The law, from what is known of one call: split and wrap keep rules and well-formedness, written bytes are read back, no offset overflows.
-use Rattle.std.proofs.Common.{◌≡◌, ℕ, zero, suc, ◌≤◌, false, cond, ltb, leb, ◌⊎◌, List, [], ◌∷◌, ◌++◌, map, length, set, Some, None, Ok, Err, Option, Result, sym, refl, ap, ◌∙◌, subst, inl, inr, ⊎_elim, arith}
+use Rattle.std.proofs.Common.{◌≡◌, ℕ, zero, suc, ◌≤◌, false, cond, ltb, leb, ◌⊎◌, List, [], ◌∷◌, ◌++◌, map, length, set, Some, None, Ok, Err, Option, Result, sym, refl, ap, ◌∙◌, subst, inl, ⊎_elim, arith}
 use Rattle.std.proofs.lemmas.List.{map-append}
 use Rattle.std.proofs.lemmas.Bool.{both_ways, cases_Bool, cond-true, cond-false}
 use Rattle.std.proofs.ByRecursion.{All-weaker}
 use Rattle.std.specs.List.{flat_map, AllByRecursion}
 use Rattle.std.proofs.lemmas.Option.{none-some, same_Some}
+use Rattle.std.proofs.lemmas.Bool.Decides.{nat_tests}
 use Rattle.refusals.specs.declared.Refusal.{Refusal}
 use Rattle.refusals.specs.declared.Refusal.TheVariants.{OffsetOverflow, ShortBuffer, NoPlace}
 use Rattle.data_bytes.specs.Values.{value_bytes}
@@ -133,16 +134,15 @@ pub record Known (caps : Capacities) (meaning : List ℕ → Option Meant) (span
 
 -- answers that are no refusal for an offset
 not_refused : {bs : List ℕ} → wrote bs ≡ refused OffsetOverflow → ⊥
-not_refused e = let z : ◌≡◌ {A = ℕ} 0 1 = cc in omega arith
+not_refused e = cc
 
 not_far : {n : ℕ} → refused (ShortBuffer n) ≡ refused OffsetOverflow → ⊥
-not_far e = let z : ◌≡◌ {A = ℕ} 0 1 = cc in omega arith
+not_far e = cc
 
 -- a ceiling that stands below another
 lower_cases : (o : Option ℕ) (c d : ℕ) → lower o c ≡ Some d → (d ≡ c) ⊎ (o ≡ Some d)
 lower_cases None c d e = inl (sym (same_Some _ _ e))
-lower_cases (Some b) c d e =
-    ⊎_elim (λ t. inr (sym (cond-true (leb b c) (Some b) (Some c) t) ∙ e)) (λ f. inl (sym (same_Some _ _ (sym (cond-false (leb b c) (Some b) (Some c) f) ∙ e)))) (cases_Bool (leb b c))
+lower_cases (Some b) c d e = grind (arith, nat_tests)
 
 module _ (caps : Capacities) (meaning : List ℕ → Option Meant) (span : List ℕ → ℕ) (know : Known caps meaning span) where
   record Inv (d : Desk) (h : Shelf) : Type 0 where

@@ -275,7 +275,7 @@ none_are v (p ∷ ps) h = ((λ e. let o = one_same p.vertex v e in omega arith),
 
 pub not_in : (v : ℕ) (ps : List Placed) → count_of v (map vertex_of ps) ≡ 0 → table_in ps v ≡ no_table
 not_in v [] h = refl
-not_in v (p ∷ ps) h = let o = none_are v (p ∷ ps) h in cond-false (eqb p.vertex v) p.table (table_in ps v) (ne_eqb p.vertex v o.0) ∙ not_in v ps (omega arith)
+not_in v (p ∷ ps) h = grind (arith, nat_tests, not_in v ps)
 
 pub found : (ps : List Placed) → Distinct (map vertex_of ps) → AllByRecursion (λ (p : Placed). table_in ps p.vertex ≡ p.table) ps
 found [] h = tt

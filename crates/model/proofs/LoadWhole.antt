@@ -8,6 +8,7 @@ use Rattle.std.proofs.lemmas.List.Sorted.{length_permutation}
 use Rattle.std.proofs.lemmas.Bool.{cases_eq, cases_lt}
 use Rattle.std.proofs.lemmas.List.FromFn.{length-range_with_len, get_or-range_with_len}
 use Rattle.std.proofs.lemmas.Bool.Decides.{nat_tests}
+use Rattle.model.proofs.LoadSought.{has-map}
 use Rattle.words.specs.Grammar.{StreamLink, real, virtual, StreamTable, Stream}
 use Rattle.words.specs.Reading.{links_in, bytes_in}
 use Rattle.data_bytes.proofs.ValueLists.{length-value_bytes}
@@ -33,12 +34,7 @@ has_count (x ∷ xs) v h =
     (has_cases x xs v h)
 
 has_target : (ls : List Slot) (l : Slot) → Has ls l → 0 < count_of l.target (map (λ (k : Slot). k.target) ls)
-has_target [] l h = absurd (has_none l h)
-has_target (k ∷ ls) l h =
-    ⊎_elim
-    (λ e. let o = one_same k.target l.target (ap (λ (z : Slot). z.target) e) in omega arith)
-    (λ i. let r = has_target ls l i in omega arith)
-    (has_cases k ls l h)
+has_target ls l h = has_count (map (λ (k : Slot). k.target) ls) l.target (has-map (λ (k : Slot). k.target) ls l h)
 
 distinct_from : (n : ℕ) (vs : List ℕ) → AllByRecursion (λ v. v < n) vs → ((v : ℕ) → v < n → count_of v vs ≤ 1) → Distinct vs
 distinct_from n [] b h = tt

@@ -1,7 +1,6 @@
 -- The bytes that a split takes: by the rule, table by table, and no fewer than the tables need.
-use Rattle.std.proofs.Common.{◌≡◌, ℕ, suc, ◌+◌, ◌*◌, ◌<◌, ◌≤◌, Bool, true, false, cond, List, [], ◌∷◌, ◌++◌, length, sum_by, filter, sym, refl, ap, ◌∙◌, subst, ⊎_elim, arith}
+use Rattle.std.proofs.Common.{◌≡◌, ℕ, suc, ◌+◌, ◌*◌, ◌<◌, ◌≤◌, Bool, true, false, cond, List, [], ◌∷◌, ◌++◌, length, sum_by, filter, sym, refl, ap, ◌∙◌, subst, arith}
 use Rattle.std.specs.List.{AllByRecursion}
-use Rattle.std.proofs.lemmas.Bool.{cases_Bool, cond-true, cond-false}
 use Rattle.model.specs.Forest.{LigatureSet, Subtable}
 use Rattle.model.specs.Cutting.{Entry, entries, parts}
 use Rattle.model.specs.Splitting.{Group, groups, has, comes_here, sets_of, new_sets, pieces, after_pieces, behind, extended, remains, divided, after_divided, split_all, Part, part, coverage_room, new_set_parts, piece_parts, extension_parts, divided_parts, all_parts}
@@ -14,7 +13,7 @@ use Rattle.model.proofs.NumberParts.{Proper, Cut-up}
 use Rattle.model.proofs.NumberWeights.{SomeSets, of_subtable, added_pieces, added_divided, kept_coverage, parts_cut_up, added_all, coverages_before, coverages_after, split_weighs}
 use Rattle.model.proofs.NumberWalks.{byte_weights}
 use Rattle.model.proofs.NumberTaken.{after_divided_lem}
-use Rattle.model.proofs.NumberOrder.{OldSets, OldPart, old_parts, old_groups, new_set, new_only, is_new, new_sets_lem, made}
+use Rattle.model.proofs.NumberOrder.{OldSets, OldPart, old_parts, old_groups, new_only, is_new, new_sets_lem, made}
 use Rattle.model.proofs.PartsGroups.{groups_filled}
 use Rattle.model.proofs.KeepSizes.{length_sets_of}
 
@@ -26,17 +25,7 @@ set_room t = 2 + 2 * length t.ligatures
 
 new_room : (own : ℕ → Bool) (fresh : ℕ) (us : List Group) → tally set_room (new_only own fresh us) ≡ tally reserved (new_set_parts own fresh us)
 new_room own fresh [] = refl
-new_room own fresh (t ∷ us) =
-    ⊎_elim
-    (λ (e : own t.set ≡ true).
-    ap (tally set_room) (cond-true (own t.set) (new_only own fresh us) (new_set fresh t ∷ new_only own (suc fresh) us) e)
-    ∙ new_room own fresh us
-    ∙ sym (ap (tally reserved) (cond-true (own t.set) (new_set_parts own fresh us) (part fresh (2 + 2 * length t.ligatures) ∷ new_set_parts own (suc fresh) us) e)))
-    (λ (e : own t.set ≡ false).
-    ap (tally set_room) (cond-false (own t.set) (new_only own fresh us) (new_set fresh t ∷ new_only own (suc fresh) us) e)
-    ∙ ap (λ n. 2 + 2 * length t.ligatures + n) (new_room own (suc fresh) us)
-    ∙ sym (ap (tally reserved) (cond-false (own t.set) (new_set_parts own fresh us) (part fresh (2 + 2 * length t.ligatures) ∷ new_set_parts own (suc fresh) us) e)))
-    (cases_Bool (own t.set))
+new_room own fresh (t ∷ us) = grind (arith, new_room own fresh us, new_room own (suc fresh) us)
 
 -- THE RULE
 module _ (first : ℕ) (wrapped : Bool) (wrote : ℕ → List ℕ) (c : ℕ) (kept : List Entry) where

@@ -1,36 +1,25 @@
 -- The groups of a part, by set: which get their own vertex and how many get a new one.
 use Rattle.std.proofs.Common.{◌≡◌, ℕ, ◌+◌, ◌<◌, false, cond, ◌||◌, eqb, List, [], ◌∷◌, sym, refl, ap, ◌∙◌, ⊎_elim, arith}
 use Rattle.std.specs.List.{AllByRecursion}
-use Rattle.std.proofs.lemmas.Bool.{eqb-true, eq-eqb, ne_eqb, cond-true, cond-false, cond_both}
+use Rattle.std.proofs.lemmas.Bool.{eq-eqb, ne_eqb, cond-true, cond-false}
 use Rattle.std.proofs.Math.Bool.{or_self_left}
 use Rattle.std.proofs.lemmas.Bool.Decides.{nat_tests}
+use Rattle.model.proofs.KeepSizes.{Starts, join_starts}
 use Rattle.model.specs.Forest.{LigatureSet}
 use Rattle.model.specs.Cutting.{Entry}
 use Rattle.model.specs.Splitting.{Group, alone, with_first, join_group, groups, has}
 use Rattle.model.proofs.NumberSums.{tally}
 use Rattle.model.proofs.NumberEntries.{Run, tally_sets, sets_same, sets_plus, sets_none, Owned, opening}
 
--- the groups begin with the set i
-abbrev Leads : ℕ → List Group → Type 0
-Leads i [] = ⊥
-Leads i (t ∷ ts) = t.set ≡ i
-
-leads_join : (e : Entry) (ts : List Group) → Leads e.set (join_group e ts)
-leads_join e [] = refl
-leads_join e (t ∷ ts) =
-    cond_both (eqb e.set t.set) (with_first e.ligature t ∷ ts) (alone e ∷ t ∷ ts) (λ us. Leads e.set us)
-    (λ q. sym (eqb-true e.set t.set q))
-    (λ q. refl)
-
 -- by set and owner
 abbrev pub by_owner : (ℕ → ℕ → ℕ) → Group → ℕ
 by_owner h t = h t.set t.owner
 
-join_same : (h : ℕ → ℕ → ℕ) (e : Entry) (i : ℕ) (ts : List Group) → Leads i ts → e.set ≡ i → tally (by_owner h) (join_group e ts) ≡ tally (by_owner h) ts
+join_same : (h : ℕ → ℕ → ℕ) (e : Entry) (i : ℕ) (ts : List Group) → Starts i ts → e.set ≡ i → tally (by_owner h) (join_group e ts) ≡ tally (by_owner h) ts
 join_same h e i [] l q = absurd l
 join_same h e i (t ∷ ts) l q = ap (tally (by_owner h)) (cond-true (eqb e.set t.set) (with_first e.ligature t ∷ ts) (alone e ∷ t ∷ ts) (eq-eqb e.set t.set (q ∙ sym l)))
 
-join_other : (h : ℕ → ℕ → ℕ) (e : Entry) (i : ℕ) (ts : List Group) → Leads i ts → (e.set ≡ i → ⊥) → tally (by_owner h) (join_group e ts) ≡ h e.set e.owner + tally (by_owner h) ts
+join_other : (h : ℕ → ℕ → ℕ) (e : Entry) (i : ℕ) (ts : List Group) → Starts i ts → (e.set ≡ i → ⊥) → tally (by_owner h) (join_group e ts) ≡ h e.set e.owner + tally (by_owner h) ts
 join_other h e i [] l q = absurd l
 join_other h e i (t ∷ ts) l q =
     ap (tally (by_owner h)) (cond-false (eqb e.set t.set) (with_first e.ligature t ∷ ts) (alone e ∷ t ∷ ts) (ne_eqb e.set t.set (λ r. q (r ∙ l))))
@@ -65,7 +54,7 @@ module _ (ts : List LigatureSet) (h : ℕ → ℕ → ℕ) where
       omega arith
   groups_weigh (e ∷ f ∷ fs) r o =
       let ih = groups_weigh (f ∷ fs) r.1 o.1 in
-      let l = leads_join f (groups fs) in
+      let l = join_starts f (groups fs) in
       ⊎_elim
       (λ (s : (e.set ≡ f.set) × (0 < f.place)).
       let a = join_same h e f.set (groups (f ∷ fs)) l s.0 in
@@ -100,7 +89,7 @@ groups_count [] r = refl
 groups_count (e ∷ []) r = let a = either e [] in omega arith
 groups_count (e ∷ f ∷ fs) r =
     let ih = groups_count (f ∷ fs) r.1 in
-    let l = leads_join f (groups fs) in
+    let l = join_starts f (groups fs) in
     let x = either e (f ∷ fs) in
     ⊎_elim
     (λ (s : (e.set ≡ f.set) × (0 < f.place)).

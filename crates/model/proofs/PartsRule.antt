@@ -1,8 +1,9 @@
 -- The parts of a run of entries: they keep the cutting rule, and no other parts do.
-use Rattle.std.proofs.Common.{◌≡◌, ℕ, zero, suc, ◌+◌, ◌<◌, ◌≤◌, Bool, cond, List, [], ◌∷◌, ◌++◌, length, get_or, Some, None, sum_by, Option, sym, refl, ap, ◌∙◌, subst, ⊎_elim, append_assoc, append-nil, arith, length-append}
+use Rattle.std.proofs.Common.{◌≡◌, ℕ, zero, suc, ◌+◌, ◌<◌, ◌≤◌, Bool, cond, List, [], ◌∷◌, ◌++◌, length, get_or, None, sum_by, sym, refl, ap, ◌∙◌, subst, ⊎_elim, append_assoc, append-nil, arith, length-append}
 use Rattle.std.specs.List.{flat_map, AllByRecursion}
 use Rattle.std.proofs.ByRecursion.{All-get_or, All-from_get_or, All-weaker}
 use Rattle.std.proofs.lemmas.Bool.{cases_lt, le-leb, lt-leb, cond-true, cond-false}
+use Rattle.std.proofs.lemmas.Bool.Decides.{nat_tests}
 use Rattle.model.specs.Forest.{Subtable, Lookup, Model}
 use Rattle.model.specs.Cutting.{Entry, entries, table_length, run_size, parts_from, parts, nth_part, Cut, cuts_of, cuts_before, cuts, Forced, last, next, CutRule}
 use Rattle.model.specs.Splitting.{Part, Bill, is_wrapped, divided, after_divided, split_all, split_lookup, all_cuts, cut_vertices, cut_links, divided_parts, all_parts, lookup_part, split_bill, long_in, first_long}
@@ -273,11 +274,7 @@ Fits ceiling e = table_length e.ligature + 12 ≤ ceiling
 module _ (c : ℕ) where
   short_entries : (es : List Entry) → long_in c es ≡ None → AllByRecursion (Fits c) es
   short_entries [] n = tt
-  short_entries (e ∷ es) n =
-      ⊎_elim
-      (λ lt. let z : ◌≡◌ {A = Option ℕ} (Some e.ligature.vertex) None = sym (cond-false _ _ _ (lt-leb (table_length e.ligature + 12) c lt)) ∙ n in let a : ◌≡◌ {A = ℕ} 0 1 = cc in absurd (omega arith))
-      (λ le. (le, short_entries es (sym (cond-true _ _ _ (le-leb (table_length e.ligature + 12) c le)) ∙ n)))
-      (cases_lt c (table_length e.ligature + 12))
+  short_entries (e ∷ es) n = (grind (arith, nat_tests), short_entries es (grind (arith, nat_tests)))
 
   pub short_subtables : (ss : List Subtable) → first_long c ss ≡ None → AllByRecursion (λ (s : Subtable). AllByRecursion (Fits c) (entries s)) ss
   short_subtables ss n = joined_all (Fits c) entries ss (short_entries (flat_map entries ss) n)
@@ -291,7 +288,7 @@ module _ (c : ℕ) where
 
   long_none : (es : List Entry) → AllByRecursion (Fits c) es → long_in c es ≡ None
   long_none [] a = refl
-  long_none (e ∷ es) a = cond-true _ _ _ (le-leb (table_length e.ligature + 12) c a.0) ∙ long_none es a.1
+  long_none (e ∷ es) a = grind (arith, nat_tests, a.0, long_none es a.1)
 
   pub fit_none_long : (ss : List Subtable) → AllByRecursion (λ (s : Subtable). Fit c (entries s)) ss → first_long c ss ≡ None
   fit_none_long ss a =

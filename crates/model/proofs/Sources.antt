@@ -1,8 +1,8 @@
 -- Where a rule comes from: its ligature's table stands in the walk, and its bytes are those of its vertex.
-use Rattle.std.proofs.Common.{◌≡◌, ℕ, zero, suc, ◌<◌, ◌⊎◌, List, [], ◌∷◌, ◌++◌, map, Some, sym, ap, ◌∙◌, subst, inl, inr, ⊎_elim, arith}
-use Rattle.std.proofs.lemmas.Bool.{eq-eqb, ne_eqb, cond-true, cond-false}
+use Rattle.std.proofs.Common.{◌≡◌, ℕ, zero, suc, ◌<◌, ◌⊎◌, List, [], ◌∷◌, ◌++◌, map, Some, sym, ap, subst, inl, inr, ⊎_elim, arith}
 use Rattle.std.specs.List.{flat_map}
 use Rattle.std.proofs.lemmas.Option.{none-some, same_Some}
+use Rattle.std.proofs.lemmas.Bool.Decides.{nat_tests}
 use Rattle.model.proofs.Lists.{one_same}
 use Rattle.model.proofs.LoadLists.{nth-map, nth_mapped}
 use Rattle.model.specs.Forest.{Ligature, LigatureSet, Subtable, Lookup, Model}
@@ -96,10 +96,5 @@ counted (q ∷ ps) (suc i) p e = let h = counted ps i p e in omega arith
 
 pub bytes_of : (ps : List Placed) (i : ℕ) (p : Placed) → Distinct (map vertex_of ps) → nth ps i ≡ Some p → bytes_at ps p.vertex ≡ Some p.table.bytes
 bytes_of [] i p d e = cc
-bytes_of (q ∷ ps) zero p d e =
-    let same = same_Some q p e in
-    cond-true _ _ _ (eq-eqb q.vertex p.vertex (ap (λ (z : Placed). z.vertex) same)) ∙ ap (λ (z : Placed). Some z.table.bytes) same
-bytes_of (q ∷ ps) (suc i) p d e =
-    let c = counted ps i p e in
-    let z = d.0 in
-    cond-false _ _ _ (ne_eqb q.vertex p.vertex (λ same. let t = ap (λ v. count_of v (map vertex_of ps)) same in omega arith)) ∙ bytes_of ps i p d.1 e
+bytes_of (q ∷ ps) zero p d e = grind (arith, nat_tests)
+bytes_of (q ∷ ps) (suc i) p d e = grind (arith, nat_tests, counted ps i p e, d.0, bytes_of ps i p d.1 e)

@@ -1,16 +1,16 @@
 -- The laws of written lookups, for a lookup and for the lookups of a model.
-use Rattle.std.proofs.Common.{◌≡◌, ℕ, zero, suc, ◌^◌, ◌≤◌, true, false, cond, ltb, leb, List, [], ◌∷◌, map, length, get_or, drop, Some, None, Ok, Err, Option, Result, sym, refl, ap, ◌∙◌, ⊎_elim, arith}
+use Rattle.std.proofs.Common.{◌≡◌, ℕ, zero, suc, ◌^◌, ◌≤◌, false, cond, ltb, leb, List, [], ◌∷◌, map, length, get_or, Some, None, Ok, Err, Option, Result, sym, refl, ap, ◌∙◌, arith}
 use Rattle.std.specs.List.{flat_map}
 use Rattle.std.proofs.ByRecursion.{All-weaker}
-use Rattle.std.proofs.lemmas.Bool.{cases_Bool, cond-true, cond-false, leb-true}
-use Rattle.refusals.specs.declared.Refusal.{Refusal}
+use Rattle.std.proofs.lemmas.Bool.{cond-false}
+use Rattle.std.proofs.lemmas.Bool.Decides.{nat_tests}
 use Rattle.refusals.specs.declared.Refusal.TheVariants.{NoPlace, Unreadable, OffsetOverflow, ShortBuffer}
 use Rattle.coverage.specs.Glyphs.{is_glyph_list_of}
 use Rattle.coverage.specs.Meaning.{Meant}
 use Rattle.coverage_list.specs.Format1.{is_array, array_meaning}
 use Rattle.model.specs.Forest.{Subtable, Lookup, Model}
 use Rattle.model.specs.Tables.{vertex_of, count_of, lookup_walk, model_walk}
-use Rattle.model.specs.Rules.{Rule, Shaped, first_rule, rules_of, shape_by, shape_in, nth}
+use Rattle.model.specs.Rules.{Rule, rules_of, shape_by, shape_in, nth}
 use Rattle.model.specs.Cutting.{subtable_size}
 use Rattle.model.specs.Sound.{Lawful, GoodSubtable, GoodLookup, Good}
 use Rattle.model.specs.Writing.{starts_in, write_order, overflows, written, written_size, write_in}
@@ -47,11 +47,7 @@ sound_nth meaning m n l g e =
 
 -- SHAPING IS NEVER REFUSED AS UNREADABLE
 pub shaping_reads : (rs : List Rule) (s : List ℕ) (p q : ℕ) → shape_by rs s p ≡ Err (Unreadable q) → ⊥
-shaping_reads rs s p q e =
-    ⊎_elim
-    (λ inside. let c = cond-true {A = Result Shaped Refusal} (ltb p (length s)) (Ok (first_rule rs (drop p s))) (Err NoPlace) inside in let z : ◌≡◌ {A = ℕ} 0 1 = cc in omega arith)
-    (λ outside. let c = cond-false {A = Result Shaped Refusal} (ltb p (length s)) (Ok (first_rule rs (drop p s))) (Err NoPlace) outside in let z : ◌≡◌ {A = ℕ} 0 1 = cc in omega arith)
-    (cases_Bool (ltb p (length s)))
+shaping_reads rs s p q e = grind arith
 
 pub read_rules : (meaning : List ℕ → Option Meant) (bs : List ℕ) (rs : List Rule) → rules_in meaning bs ≡ Ok rs → (s : List ℕ) (p : ℕ) → read meaning bs s p ≡ shape_by rs s p
 read_rules meaning bs rs e s p = ap (λ (r : Result (List Rule) ℕ). cond (ltb p (length s)) (shape_read r s p) (Err NoPlace)) e
@@ -63,28 +59,7 @@ pub record Accepts (l : Lookup) (room : ℕ) (bs : List ℕ) : Type 0 where
   pub bytes : bs ≡ written l
 
 pub accepts : (l : Lookup) (room : ℕ) (bs : List ℕ) → write_in (Some l) room ≡ Ok bs → Accepts l room bs
-accepts l room bs e = ⊎_elim over near (cases_Bool (overflows l)) where
-  told : Result (List ℕ) Refusal
-  told = cond (leb (written_size l) room) (Ok (written l)) (Err (ShortBuffer (written_size l)))
-
-  over : overflows l ≡ true → Accepts l room bs
-  over o = let c = cond-true (overflows l) (Err OffsetOverflow) told o in let z : ◌≡◌ {A = ℕ} 0 1 = cc in absurd (omega arith)
-
-  near : overflows l ≡ false → Accepts l room bs
-  near o = ⊎_elim wide narrow (cases_Bool (leb (written_size l) room)) where
-    c : write_in (Some l) room ≡ told
-    c = cond-false (overflows l) (Err OffsetOverflow) told o
-
-    wide : leb (written_size l) room ≡ true → Accepts l room bs
-    wide w =
-        let d : told ≡ Ok (written l) = cond-true (leb (written_size l) room) (Ok (written l)) (Err (ShortBuffer (written_size l))) w in
-        record { fits = o; enough = leb-true (written_size l) room w; bytes = cc }
-
-    narrow : leb (written_size l) room ≡ false → Accepts l room bs
-    narrow w =
-        let d : told ≡ Err (ShortBuffer (written_size l)) = cond-false (leb (written_size l) room) (Ok (written l)) (Err (ShortBuffer (written_size l))) w in
-        let z : ◌≡◌ {A = ℕ} 0 1 = cc in
-        absurd (omega arith)
+accepts l room bs e = record { fits = grind arith; enough = grind (arith, nat_tests); bytes = grind arith }
 
 module _ (admits : List ℕ → Type 0) (meaning : List ℕ → Option Meant) (span : List ℕ → ℕ) (lawful : Lawful admits meaning span) where
   pub reads_back_lem : ReadingGivesWhatWasWritten meaning
