@@ -1,7 +1,7 @@
 -- Shaping gives the first rule with whose glyphs the string begins.
 use Rattle.std.proofs.Common.{◌≡◌, ℕ, ◌<◌, true, false, eqb, ltb, List, [], ◌∷◌, ◌++◌, length, Ok, sym, refl, ap, ◌∙◌, ⊎_elim, arith, length-append}
 use Rattle.std.specs.List.{AllByRecursion}
-use Rattle.std.proofs.lemmas.Bool.{both_ways, cases_Bool, eq-eqb, eqb-true, lt-ltb, and_parts, and_from, cond-true, cond-false}
+use Rattle.std.proofs.lemmas.Bool.{cases_Bool, eq-eqb, eqb-true, lt-ltb, and_parts, and_from, cond-true, cond-false}
 use Rattle.std.proofs.lemmas.List.{drop_at}
 use Rattle.model.specs.Rules.{Rule, stands, unshaped, first_rule, shape_by}
 use Rattle.model.specs.ShapingLaws.{Begins, FirstRuleShapes}
@@ -15,7 +15,7 @@ begins_stands s r b = ap (stands r.glyphs) b.1 ∙ front_stands r.glyphs b.0
 
 stands_front : (gs s : List ℕ) → stands gs s ≡ true → (rest : List ℕ) × (s ≡ gs ++ rest)
 stands_front [] s h = (s, refl)
-stands_front (g ∷ gs) [] h = absurd (both_ways false refl h)
+stands_front (g ∷ gs) [] h = cc
 stands_front (g ∷ gs) (x ∷ xs) h =
     let p = and_parts (eqb g x) (stands gs xs) h in
     let q = stands_front gs xs p.1 in

@@ -1,7 +1,7 @@
 -- A list of words has one outcome: one refusal or one model.
 use Rattle.std.proofs.Common.{◌≡◌, ℕ, Bool, true, false, ◌⊎◌, List, [], ◌∷◌, map, length, is_some, Some, None, Ok, Err, Option, Result, sym, refl, ap, ◌∙◌, subst, inl, inr, ⊎_elim, arith}
 use Rattle.std.specs.List.{flat_map, AllByRecursion}
-use Rattle.std.proofs.lemmas.Bool.{both_ways, cases_order}
+use Rattle.std.proofs.lemmas.Bool.{cases_order}
 use Rattle.std.proofs.lemmas.Option.{same_Some}
 use Rattle.refusals.specs.declared.Pool.{Pool}
 use Rattle.refusals.specs.declared.Refusal.{Refusal}
@@ -59,8 +59,8 @@ module _ (s : Stream) where
 
   same_heads : (w : Bool) (o p : Option ℕ) (u v : ℕ) → is_some o ≡ w → is_some p ≡ w → head_or o u ≡ head_or p v → AllByRecursion (Holds s) (extension_walk o u) → AllByRecursion (Holds s) (extension_walk p v) → (o ≡ p) × (u ≡ v)
   same_heads w None None u v a b e x y = (refl, e)
-  same_heads w None (Some f) u v a b e x y = absurd (both_ways true (b ∙ sym a) refl)
-  same_heads w (Some f) None u v a b e x y = absurd (both_ways true (a ∙ sym b) refl)
+  same_heads w None (Some f) u v a b e x y = cc
+  same_heads w (Some f) None u v a b e x y = cc
   same_heads w (Some f) (Some g) u v a b e x y =
       let t = both_spelt (extension_table f u) (extension_table g v) e x.0 y.0 in
       (ap Some e, extension_same t.0 f g u v t.1 t.2)

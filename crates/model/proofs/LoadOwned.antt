@@ -4,7 +4,6 @@ use Rattle.std.specs.List.{flat_map, AllByRecursion}
 use Rattle.std.specs.Option.{option_to_list}
 use Rattle.std.proofs.lemmas.List.{length-map, nil_from_length}
 use Rattle.std.proofs.lemmas.List.Sorted.{length_permutation}
-use Rattle.std.proofs.lemmas.Bool.{both_ways}
 use Rattle.refusals.specs.declared.Refusal.{Refusal}
 use Rattle.words.specs.Grammar.{StreamTable, Stream}
 use Rattle.data_bytes.specs.Values.{value_bytes}
@@ -115,7 +114,7 @@ module _ (meaning : List ℕ → Option Meant) (s : Stream) (m : Model) (h : Loa
   head_wrapped x v a e f = by x.extension refl e f
     where
       by : (o : Option ℕ) → x.extension ≡ o → is_some o ≡ true → head_or o x.vertex ≡ v → Owned m is_extension v
-      by None i t g = absurd (both_ways false refl t)
+      by None i t g = cc
       by (Some w) i t g = the_extension x v a (i ∙ ap Some g)
 
   head_plain : (x : Subtable) (v : ℕ) → HasSubtable m x → is_some x.extension ≡ false → head x ≡ v → Owned m is_subtable v
@@ -123,7 +122,7 @@ module _ (meaning : List ℕ → Option Meant) (s : Stream) (m : Model) (h : Loa
     where
       by : (o : Option ℕ) → is_some o ≡ false → head_or o x.vertex ≡ v → Owned m is_subtable v
       by None t g = subst (Owned m is_subtable) g (the_subtable x a)
-      by (Some w) t g = absurd (both_ways true t refl)
+      by (Some w) t g = cc
 
   wrapped_in : (l : Lookup) → HasLookup m l → l.kind ≡ 7 → Wrapped true l.subtables
   wrapped_in l a e = ⊎_elim (λ k. k.1) (λ k. let z = k.0 in absurd (omega arith)) (kinds meaning l (good_lookup l a))

@@ -5,8 +5,9 @@ use Rattle.std.specs.Option.{option_to_list}
 use Rattle.std.proofs.lemmas.List.{length-map, length-replicate, get_or_at, map-id}
 use Rattle.std.proofs.lemmas.List.Sorted.{IsPermutation-refl, IsPermutation-sym, IsPermutation-cons, IsPermutation-swap, IsPermutation-trans, sum_by-IsPermutation}
 use Rattle.std.proofs.ByRecursion.{has_shuffled}
-use Rattle.std.proofs.lemmas.Bool.{cases_eq, cond_both, leb-true, leb-false, cases_lt, both_ways}
+use Rattle.std.proofs.lemmas.Bool.{cases_eq, cond_both, leb-true, leb-false}
 use Rattle.std.proofs.lemmas.Simd.{map-map}
+use Rattle.std.proofs.lemmas.Bool.Decides.{nat_tests}
 use Rattle.words.specs.Grammar.{StreamTable}
 use Rattle.words.proofs.Saying.{cons_nil}
 use Rattle.data_bytes.specs.Values.{value_bytes}
@@ -14,7 +15,6 @@ use Rattle.model.specs.Forest.{Ligature, LigatureSet, Subtable, Lookup}
 use Rattle.model.specs.Tables.{Slot, slot, slots_from, Table, zeros, head, lookup_table, extension_table, subtable_table, set_table, ligature_table}
 use Rattle.model.specs.Reading.{has_mark}
 use Rattle.model.specs.Loading.{slots_of, bytes_of, Spelt, LookupShape, ExtensionShape, SubtableShape, SetShape, LigatureShape, CoverageShape, Kind, is_lookup, is_extension, is_subtable, is_coverage, is_set, is_ligature, Shaped, value_at}
-use Rattle.model.proofs.Lists.{one_same}
 use Rattle.model.proofs.LoadLists.{count_cons}
 use Rattle.model.proofs.LoadSame.{Up, up_from, rising_same, targets_from, same_values}
 use Rattle.model.proofs.LoadBack.{at_position}
@@ -67,18 +67,10 @@ pub strict : (a : ℕ) (xs : List Slot) → Rise a xs → ((p : ℕ) → count_b
 strict a [] r h = tt
 strict a (x ∷ []) r h = (r.0, tt)
 strict a (x ∷ y ∷ ys) r h =
-    let k : suc x.position ≤ y.position =
-    ⊎_elim
-    (λ l. l)
-    (λ l. let e : y.position ≡ x.position = let q = r.1.0 in omega arith in
-    let c = count_cons (at_position x.position) x (y ∷ ys) in
+    let c = λ (p : ℕ). count_cons (at_position p) x (y ∷ ys) in
     let d = count_cons (at_position x.position) y ys in
-    let o = one_same x.position x.position refl in
-    let w = one_same y.position x.position e in
-    let z = h x.position in
-    absurd (omega arith))
-    (cases_lt x.position y.position) in
-    (r.0, strict (suc x.position) (y ∷ ys) (k, r.1.1) (λ p. let c = count_cons (at_position p) x (y ∷ ys) in let z = h p in omega arith))
+    let apart : suc x.position ≤ y.position = grind (arith, nat_tests, r.1.0, c x.position, d, h x.position) in
+    (r.0, strict (suc x.position) (y ∷ ys) (apart, r.1.1) (λ p. omega (arith, c p, h p)))
 
 -- EQUAL LISTS
 pub settled_list : {X : Type 0} → ((x y : X) → Settled (x ≡ y)) → (xs ys : List X) → Settled (xs ≡ ys)
@@ -163,10 +155,10 @@ mark_asks true v = refl
 mark_asks false v = refl
 
 mark_read_lem : (b : Bool) (o : Option ℕ) (v k : ℕ) → is_some o ≡ b → v ≡ get_or (zeros k ++ option_to_list o) k 0 → o ≡ mark_read b v
-mark_read_lem true None v k e f = absurd (both_ways false refl e)
+mark_read_lem true None v k e f = cc
 mark_read_lem false None v k e f = refl
 mark_read_lem true (Some x) v k e f = ap Some (sym (f ∙ get_or_at (zeros k) x [] 0 k (length-replicate k 0)))
-mark_read_lem false (Some x) v k e f = absurd (both_ways true e refl)
+mark_read_lem false (Some x) v k e f = cc
 
 -- one candidate is enough
 settled_by : {A : Type 0} (P : A → Type 0) (a : A) → Settled (P a) → ((b : A) → P b → P a) → Settled ((b : A) × P b)

@@ -53,7 +53,7 @@ good_short admits meaning span law ss h =
 -- MORE VERTICES
 pub up_counts : (v k n : ℕ) → count_of v (up_from k n) ≡ tally_up (one v) k n
 up_counts v k zero = refl
-up_counts v k (suc n) = let a = up_counts v (suc k) n in omega arith
+up_counts v k (suc n) = omega (arith, up_counts v (suc k) n)
 
 -- some tables more, with the next free numbers
 module _ (before after : List Placed) (first more : ℕ) (d : Distinct (map vertex_of before)) (b : AllByRecursion (λ (p : Placed). p.vertex < first) before)

@@ -1,13 +1,13 @@
 -- Own and new vertices over all parts of a subtable: each set keeps its own vertex once, and as many sets are new as cuts fall inside a set.
-use Rattle.std.proofs.Common.{◌≡◌, ℕ, suc, ◌+◌, ◌*◌, Bool, true, false, cond, not, ◌&&◌, ◌||◌, List, [], ◌∷◌, ◌++◌, map, length, sym, refl, ap, ◌∙◌, subst, ⊎_elim, arith}
+use Rattle.std.proofs.Common.{◌≡◌, ℕ, suc, ◌+◌, ◌*◌, Bool, cond, not, ◌&&◌, ◌||◌, List, [], ◌∷◌, ◌++◌, map, length, sym, refl, ap, ◌∙◌, subst, arith}
 use Rattle.std.specs.List.{flat_map, AllByRecursion}
 use Rattle.std.proofs.lemmas.List.{map-append}
-use Rattle.std.proofs.lemmas.Bool.{cases_Bool, cond-true, cond-false, cond_both}
+use Rattle.std.proofs.lemmas.Bool.{cond_both}
 use Rattle.model.specs.Forest.{Ligature, LigatureSet}
 use Rattle.model.specs.Cutting.{Entry, entries_from, sets_from, cuts_of}
 use Rattle.model.specs.Splitting.{Group, groups, has, any_has, comes_here, sets_of, new_sets, after_pieces, inside}
 use Rattle.model.proofs.Lists.{all_front, all_back}
-use Rattle.model.proofs.NumberSums.{tally, tally_append, tally_ones, tally_up}
+use Rattle.model.proofs.NumberSums.{tally, tally_append, tally_ones, tally_up, tally_up_cond}
 use Rattle.model.proofs.NumberEntries.{itself, SomeEntries, Run, run_front, run_back, Opens, sets_open, sets_run, tally_sets, sets_same, sets_plus, sets_none, Owned, sets_owned, SomeLigatures, has-append, any_joined, all-present, opening, sets_opening}
 use Rattle.model.proofs.NumberGroups.{groups_weigh, within, within_not, groups_count}
 
@@ -148,31 +148,7 @@ after_pieces_lem kept fresh (p ∷ later) =
 pub sets_weigh : (w : ℕ → ℕ) (own : ℕ → Bool) (fresh : ℕ) (us : List Group)
     → tally (λ (t : LigatureSet). w t.vertex) (sets_of own fresh us) ≡ tally (own_here own w) us + tally_up w fresh (new_sets own us)
 sets_weigh w own fresh [] = refl
-sets_weigh w own fresh (t ∷ us) =
-    ⊎_elim
-    (λ (e : own t.set ≡ true).
-    let a = sets_weigh w own fresh us in
-    let b : tally (λ (t : LigatureSet). w t.vertex) (sets_of own fresh (t ∷ us)) ≡ w t.owner + tally (λ (t : LigatureSet). w t.vertex) (sets_of own fresh us)
-    = ap (tally (λ (t : LigatureSet). w t.vertex)) (cond-true (own t.set) (mine ∷ sets_of own fresh us) (new ∷ sets_of own (suc fresh) us) e) in
-    let c : own_here own w t ≡ w t.owner = cond-true (own t.set) (w t.owner) 0 e in
-    let d : tally_up w fresh (new_sets own (t ∷ us)) ≡ tally_up w fresh (0 + new_sets own us) = ap (λ n. tally_up w fresh (n + new_sets own us)) (cond-true (own t.set) 0 1 e) in
-    let f : tally_up w fresh (0 + new_sets own us) ≡ tally_up w fresh (new_sets own us) = let z : 0 + new_sets own us ≡ new_sets own us = omega arith in ap (tally_up w fresh) z in
-    omega arith)
-    (λ (e : own t.set ≡ false).
-    let a = sets_weigh w own (suc fresh) us in
-    let b : tally (λ (t : LigatureSet). w t.vertex) (sets_of own fresh (t ∷ us)) ≡ w fresh + tally (λ (t : LigatureSet). w t.vertex) (sets_of own (suc fresh) us)
-    = ap (tally (λ (t : LigatureSet). w t.vertex)) (cond-false (own t.set) (mine ∷ sets_of own fresh us) (new ∷ sets_of own (suc fresh) us) e) in
-    let c : own_here own w t ≡ 0 = cond-false (own t.set) (w t.owner) 0 e in
-    let d : tally_up w fresh (new_sets own (t ∷ us)) ≡ tally_up w fresh (1 + new_sets own us) = ap (λ n. tally_up w fresh (n + new_sets own us)) (cond-false (own t.set) 0 1 e) in
-    let f : tally_up w fresh (1 + new_sets own us) ≡ w fresh + tally_up w (suc fresh) (new_sets own us) = let z : 1 + new_sets own us ≡ suc (new_sets own us) = omega arith in ap (tally_up w fresh) z in
-    omega arith)
-    (cases_Bool (own t.set))
-  where
-    mine : LigatureSet
-    mine = record { vertex = t.owner; first = t.first; ligatures = t.ligatures }
-
-    new : LigatureSet
-    new = record { vertex = fresh; first = t.first; ligatures = t.ligatures }
+sets_weigh w own fresh (t ∷ us) = grind (arith, tally_up_cond w fresh (new_sets own us) (own t.set), sets_weigh w own fresh us, sets_weigh w own (suc fresh) us)
 
 -- LIGATURES stay, in order
 abbrev pub ligatures_in : List LigatureSet → List Ligature

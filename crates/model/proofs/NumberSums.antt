@@ -1,5 +1,5 @@
 -- Sums over lists and over runs of numbers, and how often a number stands in a list.
-use Rattle.std.proofs.Common.{◌≡◌, ℕ, zero, suc, ◌+◌, ◌<◌, ◌≤◌, cond, eqb, List, [], ◌∷◌, ◌++◌, map, length, sum_by, refl, ap, ◌∙◌, arith, ◌*◌, sym}
+use Rattle.std.proofs.Common.{◌≡◌, ℕ, zero, suc, ◌+◌, ◌<◌, ◌≤◌, cond, eqb, List, [], ◌∷◌, ◌++◌, map, length, sum_by, refl, ap, ◌∙◌, arith, ◌*◌, sym, Bool, true, false}
 use Rattle.std.specs.List.{flat_map, AllByRecursion}
 use Rattle.std.proofs.lemmas.List.Sums.{sum_by-cons}
 use Rattle.std.proofs.Math.Nat.{mul-zero, mul-suc}
@@ -47,6 +47,11 @@ tally_up_more w k (suc a) b =
     let y : k + suc a ≡ suc k + a = omega arith in
     let z : suc a + b ≡ suc (a + b) = omega arith in
     rw (y, z) (omega (arith, tally_up_more w (suc k) a b))
+
+-- one more or not
+pub tally_up_cond : (w : ℕ → ℕ) (k n : ℕ) (b : Bool) → tally_up w k (cond b 0 1 + n) ≡ cond b (tally_up w k n) (w k + tally_up w (suc k) n)
+tally_up_cond w k n true = let z : 0 + n ≡ n = omega arith in ap (tally_up w k) z
+tally_up_cond w k n false = let z : 1 + n ≡ suc n = omega arith in ap (tally_up w k) z
 
 pub tally_up_each : (c k n : ℕ) → tally_up (λ v. c) k n ≡ c * n
 tally_up_each c k zero = sym (mul-zero c)

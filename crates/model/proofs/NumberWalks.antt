@@ -174,7 +174,7 @@ lookup_bytes_lem l =
 
 -- ONE LOOKUP IN PLACE OF ANOTHER
 in_place : (f : Lookup → ℕ) (ls : List Lookup) (n : ℕ) (l new : Lookup) → nth ls n ≡ Some l → tally f (set ls n new) + f l ≡ tally f ls + f new
-in_place f [] n l new e = let z : ◌≡◌ {A = ℕ} 0 1 = cc in absurd (omega arith)
+in_place f [] n l new e = cc
 in_place f (x ∷ ls) zero l new e =
     let same : x ≡ l = cc in
     let a : f x ≡ f l = ap f same in

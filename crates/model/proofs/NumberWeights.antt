@@ -2,7 +2,6 @@
 use Rattle.std.proofs.Common.{◌≡◌, ℕ, suc, ◌+◌, Bool, true, false, cond, List, [], ◌∷◌, ◌++◌, map, length, is_some, Some, None, Option, sym, refl, ap, ◌∙◌, subst, arith}
 use Rattle.std.specs.List.{flat_map, AllByRecursion}
 use Rattle.std.proofs.lemmas.List.{map-append}
-use Rattle.std.proofs.lemmas.Bool.{true≢false}
 use Rattle.model.specs.Forest.{Ligature, LigatureSet, Subtable}
 use Rattle.model.specs.Cutting.{Entry, sets_from, entries, parts}
 use Rattle.model.specs.Splitting.{Group, groups, comes_here, sets_of, new_sets, pieces, after_pieces, extended, divided, after_divided, split_all}
@@ -78,15 +77,12 @@ module _ (k : Weights) where
   -- extension tables in front of subtables that have none
   bare_weighs : (o : Option ℕ) → is_some o ≡ false → of_extension o ≡ 0
   bare_weighs None e = refl
-  bare_weighs (Some v) e = absurd (true≢false e)
+  bare_weighs (Some v) e = cc
 
   pub extended_weigh : (fresh : ℕ) (ss : List Subtable) → AllByRecursion (λ (s : Subtable). is_some s.extension ≡ false) ss
       → tally of_subtable (extended fresh ss) ≡ tally of_subtable ss + tally_up k.extension fresh (length ss)
   extended_weigh fresh [] h = refl
-  extended_weigh fresh (s ∷ ss) h =
-      let a = extended_weigh (suc fresh) ss h.1 in
-      let b = bare_weighs s.extension h.0 in
-      omega arith
+  extended_weigh fresh (s ∷ ss) h = omega (arith, extended_weigh (suc fresh) ss h.1, bare_weighs s.extension h.0)
 
   -- the coverage that the original has afterwards
   abbrev pub kept_coverage : (ℕ → List ℕ) → Subtable → List (List Entry) → ℕ

@@ -2,7 +2,6 @@
 use Rattle.std.proofs.Common.{◌≡◌, ℕ, suc, ◌+◌, ◌*◌, ◌≤◌, Bool, true, false, cond, eqb, List, [], ◌∷◌, map, length, set, is_some, Some, sum_by, Option, sym, refl, ap, ◌∙◌, subst, arith}
 use Rattle.std.specs.List.{flat_map, AllByRecursion}
 use Rattle.std.proofs.ByRecursion.{All-set}
-use Rattle.std.proofs.lemmas.Bool.{true≢false}
 use Rattle.std.proofs.lemmas.Option.{same_Some}
 use Rattle.coverage.specs.Meaning.{Meant}
 use Rattle.model.specs.Forest.{Subtable, Lookup, Model}
@@ -37,7 +36,7 @@ extensions_are fresh (s ∷ ss) = ap (λ q. Some fresh ∷ q) (extensions_are (s
 
 -- the kind of a lookup that is not wrapped
 unwrapped : (b : Bool) (A B : Type 0) → cond b A B → b ≡ false → B
-unwrapped true A B h e = absurd (true≢false e)
+unwrapped true A B h e = cc
 unwrapped false A B h e = h
 
 module _ (meaning : List ℕ → Option Meant) (m : Model) (n : ℕ) (l : Lookup) (was : nth m.lookups n ≡ Some l) (g : Good meaning m) (plain : is_wrapped l ≡ false) where

@@ -3,7 +3,7 @@ use Rattle.std.proofs.Common.{◌≡◌, ℕ, zero, suc, ◌+◌, ◌<◌, ◌�
 use mathlib.Core.List.{map-map, map-append}
 use Rattle.std.specs.List.{range_with_len, AllByRecursion}
 use Rattle.std.proofs.ByRecursion.{All-get_or}
-use Rattle.std.proofs.lemmas.Bool.{cases_Bool, eq-eqb, ne_eqb, eqb-true, cond-true, cond-false, both_ways, or_cases}
+use Rattle.std.proofs.lemmas.Bool.{cases_Bool, eq-eqb, ne_eqb, eqb-true, cond-true, cond-false, or_cases}
 use Rattle.std.proofs.Math.Bool.{or_self_left}
 use Rattle.std.proofs.lemmas.Bool.Decides.{nat_tests}
 use Rattle.coverage.specs.Glyphs.{above, rises, GlyphList}
@@ -156,7 +156,7 @@ record Apart (i : ℕ) (ts : List LigatureSet) (ms cs : List Mark) : Type 0 wher
 
 marks_apart : (i : ℕ) (ts : List LigatureSet) (ms cs : List Mark) → marks i ts ≡ ms ++ cs → Apart i ts ms cs
 marks_apart i ts [] cs is = record { front = []; back = ts; sets = refl; left = refl; right = sym is ∙ ap (λ n. marks n ts) (omega arith) }
-marks_apart i [] (a ∷ ms) cs is = let z : ◌≡◌ {A = ℕ} 0 1 = cc in absurd (omega arith)
+marks_apart i [] (a ∷ ms) cs is = cc
 marks_apart i (t ∷ ts) (a ∷ ms) cs is =
     let first : (i, t.vertex, t.first) ≡ a = cc in
     let rest : marks (suc i) ts ≡ ms ++ cs = cc in
@@ -275,7 +275,7 @@ rises_front (x ∷ []) ys up = refl
 rises_front (x ∷ y ∷ xs) ys up = grind (arith, nat_tests, rises_front (y ∷ xs) ys)
 
 rises_apart : (xs ys : List ℕ) → rises (xs ++ ys) ≡ true → (x : ℕ) → among x xs ≡ true → among x ys ≡ true → ⊥
-rises_apart [] ys up x h k = both_ways false refl h
+rises_apart [] ys up x h k = cc
 rises_apart (a ∷ xs) ys up x h k =
     ⊎_elim
     (λ b. let q = eqb-true a x b in let lt = above_among a x (xs ++ ys) up (among_back x xs ys k) in omega arith)

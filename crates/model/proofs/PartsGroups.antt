@@ -204,7 +204,7 @@ head_kept e (f ∷ fs) t ts o is =
     (group_step e (f ∷ fs))
 
 pub grown_kept : (e : Entry) (es : List Entry) → InOrder (e ∷ es) → (g : Grown e es) → Kept e g.head
-grown_kept e [] o g = absurd (both_ways false refl g.same)
+grown_kept e [] o g = cc
 grown_kept e (f ∷ fs) o g = kept_on e f g.head (leads_same e f o.0 g.same) (head_kept f fs g.head g.tail o.1 g.behind)
 
 -- what is made of each ligature and its set, over groups and over entries

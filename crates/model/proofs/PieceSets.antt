@@ -131,7 +131,7 @@ record Last (ps : List (List Entry)) (i : ℕ) : Type 0 where
   last : LastWith ps i piece
 
 last_of : (i : ℕ) (ps : List (List Entry)) → any_has i ps ≡ true → Last ps i
-last_of i [] e = absurd (both_ways false refl e)
+last_of i [] e = cc
 last_of i (p ∷ ps) e =
     ⊎_elim
     (λ y.
@@ -187,7 +187,7 @@ in_join i e (u ∷ us) h =
     (λ q. h)
 
 in_groups : (i : ℕ) (p : List Entry) → has i p ≡ true → InGroups i (groups p)
-in_groups i [] h = absurd (both_ways false refl h)
+in_groups i [] h = cc
 in_groups i (e ∷ es) h = in_join i e (groups es) (⊎_elim (λ x. inl (eqb-true e.set i x)) (λ x. inr (in_groups i es x)) (or_cases (eqb e.set i) (has i es) h))
 
 record Grouped (i : ℕ) (us : List Group) : Type 0 where

@@ -26,7 +26,7 @@ use Rattle.model.proofs.Premises.{bytes_all}
 
 -- THE LOOKUP AT A NUMBER
 count_nth : (v : ℕ) (ls : List Lookup) (n : ℕ) (l : Lookup) → nth ls n ≡ Some l → count_of v (map vertex_of (lookup_walk l)) ≤ count_of v (map vertex_of (flat_map lookup_walk ls))
-count_nth v [] n l e = let z : ◌≡◌ {A = ℕ} 0 1 = cc in absurd (omega arith)
+count_nth v [] n l e = cc
 count_nth v (k ∷ ls) zero l e =
     let same : k ≡ l = cc in
     let f = ap (λ (x : Lookup). count_of v (map vertex_of (lookup_walk x))) same in
@@ -82,7 +82,7 @@ module _ (admits : List ℕ → Type 0) (meaning : List ℕ → Option Meant) (s
       omega arith
 
   write_reads : (m : Model) (n room : ℕ) (bs : List ℕ) → Good meaning m → (o : Option Lookup) → nth m.lookups n ≡ o → write_in o room ≡ Ok bs → Wrote meaning m n room bs
-  write_reads m n room bs g None at e = let z : ◌≡◌ {A = ℕ} 0 1 = cc in absurd (omega arith)
+  write_reads m n room bs g None at e = cc
   write_reads m n room bs g (Some l) at e =
       let a = accepts l room bs e in
       let r = reads_back_lem l (sound_nth meaning m n l g at) a.fits in

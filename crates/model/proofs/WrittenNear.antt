@@ -4,7 +4,7 @@ use Rattle.std.specs.List.{flat_map, AllByRecursion}
 use Rattle.std.proofs.ByRecursion.{All-append, All-map, All-weaker}
 use Rattle.std.proofs.lemmas.List.{length-map}
 use Rattle.std.proofs.lemmas.List.Sums.{sum_by-append}
-use Rattle.std.proofs.lemmas.Bool.{both_ways, or_from, le-ltb, eq-eqb}
+use Rattle.std.proofs.lemmas.Bool.{or_from, le-ltb, eq-eqb}
 use Rattle.coverage.specs.Meaning.{Meant}
 use Rattle.model.specs.Forest.{Ligature, LigatureSet, Subtable, Lookup}
 use Rattle.model.specs.Tables.{Placed, vertex_of, slots_from, head, head_or, lookup_table, coverage_table, set_table, ligature_table, extension_walk, lookup_walk}
@@ -78,7 +78,7 @@ module _ (Q : Placed → Type 0) (ss : List Start) (bs : List ℕ) where
       )
 
   extended_near : (v m : ℕ) (o : Option ℕ) (w : ℕ) → is_some o ≡ true → AllByRecursion (Sits Q ss bs 0 m) (extension_walk o w) → m ≤ 65543 → ahead ss v (head_or o w) ≤ 65535
-  extended_near v m None w some a le = absurd (both_ways false refl some)
+  extended_near v m None w some a le = cc
   extended_near v m (Some e) w some a le = let to = a.0.to in omega arith
 
 sizes_extension : (o : Option ℕ) (v : ℕ) → sizes (extension_walk o v) ≤ 8

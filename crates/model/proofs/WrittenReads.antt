@@ -4,7 +4,7 @@ use Rattle.std.specs.List.{flat_map, AllByRecursion}
 use Rattle.std.specs.Option.{option_to_list}
 use Rattle.std.proofs.ByRecursion.{All-get_or}
 use Rattle.std.proofs.lemmas.List.{append-nil, length-map, get_or-map, get_or-append-add, get_or_append_left, take_all}
-use Rattle.std.proofs.lemmas.Bool.{both_ways, and_from, or_left, or_right, cond-true, le-leb, lt-ltb, eq-eqb}
+use Rattle.std.proofs.lemmas.Bool.{and_from, or_left, or_right, cond-true, le-leb, lt-ltb, eq-eqb}
 use Rattle.std.proofs.lemmas.List.Concat.{flat_map_single}
 use Rattle.data_bytes.specs.BigEndian.{word16, number_at}
 use Rattle.data_bytes.specs.Values.{value_bytes, values_at}
@@ -189,12 +189,12 @@ extension_reads meaning ss bs low high e v h behind small =
 extended_reads : (meaning : List ℕ → Option Meant) (ss : List Start) (bs : List ℕ) (low high : ℕ) (o : Option ℕ) (v : ℕ) → is_some o ≡ true
     → AllByRecursion (Sits (Near ss) ss bs low high) (extension_walk o v) → high ≤ start_of ss v → start_of ss v < 256 ^ 4
     → extension_at meaning bs (start_of ss (head_or o v)) ≡ subtable_at meaning bs (start_of ss v)
-extended_reads meaning ss bs low high None v some a behind small = absurd (both_ways false refl some)
+extended_reads meaning ss bs low high None v some a behind small = cc
 extended_reads meaning ss bs low high (Some e) v some a behind small = extension_reads meaning ss bs low high e v a.0 behind small
 
 plain_head : (o : Option ℕ) (v : ℕ) → is_some o ≡ false → head_or o v ≡ v
 plain_head None v none = refl
-plain_head (Some e) v none = absurd (both_ways true none refl)
+plain_head (Some e) v none = cc
 
 mark_room_lem : (o : Option ℕ) → cond (is_some o) 2 0 ≡ 2 * length (option_to_list o)
 mark_room_lem None = refl
