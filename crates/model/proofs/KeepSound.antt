@@ -1,9 +1,10 @@
 -- A division of a well-formed lookup leaves it well-formed, if its new coverages were written well.
-use Rattle.std.proofs.Common.{◌≡◌, ℕ, suc, ◌+◌, ◌<◌, ◌≤◌, Bool, true, false, cond, eqb, List, [], ◌∷◌, ◌++◌, length, is_some, Some, Option, sym, refl, ap, ◌∙◌, subst, ⊎_elim, arith}
+use Rattle.std.proofs.Common.{◌≡◌, ℕ, suc, ◌+◌, ◌<◌, ◌≤◌, Bool, true, false, cond, eqb, List, [], ◌∷◌, length, is_some, Some, Option, sym, refl, ap, subst, ⊎_elim, arith}
 use Rattle.std.specs.List.{AllByRecursion}
 use Rattle.std.proofs.lemmas.List.{length-append}
 use Rattle.std.proofs.ByRecursion.{All-append, All-weaker, All-set}
-use Rattle.std.proofs.lemmas.Bool.{eq-eqb, ne_eqb, cases_eq, cond_both}
+use Rattle.std.proofs.lemmas.Bool.{cases_eq, cond_both}
+use Rattle.std.proofs.lemmas.Bool.Decides.{nat_tests}
 use Rattle.data_bytes.specs.BigEndian.{Bytes}
 use Rattle.coverage.specs.Meaning.{Meant}
 use Rattle.model.specs.Forest.{Ligature, LigatureSet, Subtable, Lookup, Model}
@@ -11,31 +12,30 @@ use Rattle.model.specs.Cutting.{Entry, entries_from, sets_from, entries, parts}
 use Rattle.model.specs.Splitting.{Capacities, Group, groups, sets_of, new_sets, comes_here, pieces, after_pieces, extended, divided, after_divided, split_all, split_lookup, is_wrapped, wrap_lookup, renewed, all_renewed, renewed_in}
 use Rattle.model.specs.Sound.{GoodLigature, GoodSet, GoodSubtable, GoodLookup, glyphs_of, WroteWell}
 use Rattle.model.specs.KeepingLaws.{AcceptedSplitsKeepLookupsWellFormed, AcceptedWrapsKeepLookupsWellFormed, SplittingKeepsLookupsWellFormed, WrappingKeepsLookupsWellFormed}
-use Rattle.model.proofs.Lists.{all_front, all_back, all_both, all-nth}
+use Rattle.model.proofs.Lists.{all_front, all_back, all_both, all-nth, one}
 use Rattle.model.proofs.KeepParts.{all_whole, parts_full}
 use Rattle.model.proofs.KeepModels.{split_made, wrap_made}
 use Rattle.model.proofs.KeepSizes.{join_all, sets_of_all, length_sets_of, extended_all, divided-all, length_extended, length-split-all}
 use Rattle.model.proofs.PartsSize.{touched_some}
 use Rattle.model.proofs.PartsRule.{whole, joined_parts, parts_some, Fits, short_subtables}
 use Rattle.model.proofs.PartsGroups.{groups_filled, length-groups}
+use Rattle.model.proofs.NumberSums.{tally as sum, tally_append as sum_append}
 
 -- HOW MANY ENTRIES ARE OF A SET
+abbrev of_set : ℕ → Entry → ℕ
+of_set i e = one (eqb e.set i)
+
 abbrev pub tally : ℕ → List Entry → ℕ
-tally i [] = 0
-tally i (e ∷ es) = cond (eqb e.set i) 1 0 + tally i es
+tally i es = sum (of_set i) es
 
 tally_here : (i : ℕ) (e : Entry) (es : List Entry) → e.set ≡ i → tally i (e ∷ es) ≡ suc (tally i es)
-tally_here i e es h = ap (λ (b : Bool). cond b 1 0 + tally i es) (eq-eqb e.set i h) ∙ (let z : 1 + tally i es ≡ suc (tally i es) = omega arith in z)
+tally_here i e es h = grind (arith, nat_tests)
 
 tally_other : (i : ℕ) (e : Entry) (es : List Entry) → (e.set ≡ i → ⊥) → tally i (e ∷ es) ≡ tally i es
-tally_other i e es h = ap (λ (b : Bool). cond b 1 0 + tally i es) (ne_eqb e.set i h) ∙ (let z : 0 + tally i es ≡ tally i es = omega arith in z)
+tally_other i e es h = grind (arith, nat_tests)
 
 tally_more : (i : ℕ) (e : Entry) (es : List Entry) → tally i es ≤ tally i (e ∷ es)
 tally_more i e es = omega arith
-
-pub tally_append : (i : ℕ) (xs ys : List Entry) → tally i (xs ++ ys) ≡ tally i xs + tally i ys
-tally_append i [] ys = let z : tally i ys ≡ 0 + tally i ys = omega arith in z
-tally_append i (e ∷ es) ys = let h = tally_append i es ys in omega arith
 
 -- a group has no more ligatures than there are entries of its set
 groups_tally : (es : List Entry) → AllByRecursion (λ (t : Group). length t.ligatures ≤ tally t.set es) (groups es)
@@ -50,20 +50,16 @@ groups_tally (e ∷ es) =
 -- in a subtable that is the length of the set
 tally_of_set : (i j : ℕ) (t : LigatureSet) (gs : List Ligature) → tally i (entries_from i j t gs) ≡ length gs
 tally_of_set i j t [] = refl
-tally_of_set i j t (g ∷ gs) =
-    tally_here i (record { set = i; place = j; owner = t.vertex; first = t.first; ligature = g }) (entries_from i (suc j) t gs) refl
-    ∙ ap suc (tally_of_set i (suc j) t gs)
+tally_of_set i j t (g ∷ gs) = grind (arith, nat_tests, tally_of_set i (suc j) t gs)
 
 tally_of_other : (k i j : ℕ) (t : LigatureSet) (gs : List Ligature) → (i ≡ k → ⊥) → tally k (entries_from i j t gs) ≡ 0
 tally_of_other k i j t [] ne = refl
-tally_of_other k i j t (g ∷ gs) ne =
-    tally_other k (record { set = i; place = j; owner = t.vertex; first = t.first; ligature = g }) (entries_from i (suc j) t gs) ne
-    ∙ tally_of_other k i (suc j) t gs ne
+tally_of_other k i j t (g ∷ gs) ne = grind (arith, nat_tests, tally_of_other k i (suc j) t gs ne)
 
 tally_of_later : (k i : ℕ) (ts : List LigatureSet) → k < i → tally k (sets_from i ts) ≡ 0
 tally_of_later k i [] lt = refl
 tally_of_later k i (t ∷ ts) lt =
-    let a = tally_append k (entries_from i 0 t t.ligatures) (sets_from (suc i) ts) in
+    let a = sum_append (of_set k) (entries_from i 0 t t.ligatures) (sets_from (suc i) ts) in
     let b = tally_of_other k i 0 t t.ligatures (λ e. omega arith) in
     let c = tally_of_later k (suc i) ts (omega arith) in
     omega arith
@@ -71,7 +67,7 @@ tally_of_later k i (t ∷ ts) lt =
 tally_of_sets : (n k i : ℕ) (ts : List LigatureSet) → 0 < n → AllByRecursion (λ (t : LigatureSet). length t.ligatures < n) ts → tally k (sets_from i ts) < n
 tally_of_sets n k i [] pos h = omega arith
 tally_of_sets n k i (t ∷ ts) pos h =
-    let a = tally_append k (entries_from i 0 t t.ligatures) (sets_from (suc i) ts) in
+    let a = sum_append (of_set k) (entries_from i 0 t t.ligatures) (sets_from (suc i) ts) in
     let s = h.0 in
     ⊎_elim
     (λ (e : i ≡ k).
@@ -87,8 +83,8 @@ tally_of_sets n k i (t ∷ ts) pos h =
 tally_of_parts : (n : ℕ) (ps : List (List Entry)) → ((i : ℕ) → tally i (whole ps) < n) → AllByRecursion (λ (p : List Entry). (i : ℕ) → tally i p < n) ps
 tally_of_parts n [] h = tt
 tally_of_parts n (p ∷ ps) h = (
-  λ i. let a = tally_append i p (whole ps) in let b = h i in omega arith,
-  tally_of_parts n ps (λ i. let a = tally_append i p (whole ps) in let b = h i in omega arith),
+  λ i. let a = sum_append (of_set i) p (whole ps) in let b = h i in omega arith,
+  tally_of_parts n ps (λ i. let a = sum_append (of_set i) p (whole ps) in let b = h i in omega arith),
 )
 
 -- WHAT HOLDS OF EACH LIGATURE of a subtable holds of each entry, and of each in a group

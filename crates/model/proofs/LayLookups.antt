@@ -1,5 +1,5 @@
 -- The tables of a written lookup, part by part: where they stand, and that no vertex stands twice.
-use Rattle.std.proofs.Common.{◌≡◌, ℕ, ◌+◌, ◌*◌, ◌≤◌, List, [], ◌∷◌, ◌++◌, map, length, Some, None, Option, ap, ◌∙◌, arith, length-append}
+use Rattle.std.proofs.Common.{◌≡◌, ℕ, ◌+◌, ◌*◌, ◌≤◌, List, [], ◌∷◌, ◌++◌, map, length, Some, None, Option, ap, ◌∙◌, arith, length-append, sym}
 use Rattle.std.specs.List.{flat_map, AllByRecursion}
 use Rattle.std.specs.Option.{option_to_list}
 use Rattle.std.proofs.ByRecursion.{All-append, All-map}
@@ -11,7 +11,8 @@ use Rattle.model.specs.Sound.{Distinct}
 use Rattle.model.specs.Writing.{Start, starts_in, subtable_order, extensions_of, write_order, written, written_size}
 use Rattle.model.proofs.Lists.{all_mapped, joined_all, all_joined, all_any, count_append, distinct_count, count_distinct}
 use Rattle.model.proofs.LayPlaces.{slots_fit}
-use Rattle.model.proofs.LayStarts.{size, sizes, sizes_sum, Fits, length_laid, Here, Laid, Sits, laid_front, laid_back, laid_sits, laid_whole}
+use Rattle.model.proofs.NumberSums.{tally_sum}
+use Rattle.model.proofs.LayStarts.{size, sizes, Fits, length_laid, Here, Laid, Sits, laid_front, laid_back, laid_sits, laid_whole}
 use Rattle.model.proofs.PartsBytes.{length_zeros, bytes_subtable, bytes_set}
 
 abbrev pub set_tables : Subtable → List Placed
@@ -80,7 +81,7 @@ fits_written l = (
 -- as long as told
 pub length_written : (l : Lookup) → length (written l) ≡ written_size l
 unfolding written
-length_written l = length_laid (starts_in l) (write_order l) (fits_written l) ∙ sizes_sum (write_order l)
+length_written l = length_laid (starts_in l) (write_order l) (fits_written l) ∙ sym (tally_sum size (write_order l))
 
 -- THE SAME TABLES AS IN THE WALK
 abbrev count : ℕ → List Placed → ℕ

@@ -1,13 +1,13 @@
 -- Tables laid end to end: each vertex's start is where its table stands, if no vertex stands twice.
-use Rattle.std.proofs.Common.{◌≡◌, ℕ, ◌+◌, ◌<◌, ◌≤◌, eqb, List, [], ◌∷◌, ◌++◌, map, length, sum_by, sym, refl, ◌∙◌, subst, append_assoc, add-zero, arith, length-append}
+use Rattle.std.proofs.Common.{◌≡◌, ℕ, ◌+◌, ◌<◌, ◌≤◌, eqb, List, [], ◌∷◌, ◌++◌, map, length, sym, refl, ◌∙◌, subst, append_assoc, add-zero, arith, length-append}
 use Rattle.std.specs.List.{flat_map, AllByRecursion}
-use Rattle.std.proofs.lemmas.List.Sums.{sum_by-cons}
 use Rattle.std.proofs.lemmas.Bool.{eq-eqb, cond-true}
 use Rattle.std.proofs.lemmas.Bool.Decides.{nat_tests}
 use Rattle.model.specs.Tables.{Slot, Placed, vertex_of, count_of}
 use Rattle.model.specs.Sound.{Distinct}
 use Rattle.model.specs.Writing.{Start, starts_from, start_of, filled}
 use Rattle.model.proofs.Lists.{one_same}
+use Rattle.model.proofs.NumberSums.{tally}
 use Rattle.model.proofs.LayPlaces.{Stands, stands_behind, length_fill}
 
 -- SIZES
@@ -15,16 +15,7 @@ abbrev pub size : Placed → ℕ
 size x = length x.table.bytes
 
 abbrev pub sizes : List Placed → ℕ
-sizes [] = 0
-sizes (x ∷ xs) = size x + sizes xs
-
-pub sizes_append : (xs ys : List Placed) → sizes (xs ++ ys) ≡ sizes xs + sizes ys
-sizes_append [] ys = omega arith
-sizes_append (x ∷ xs) ys = let h = sizes_append xs ys in omega arith
-
-pub sizes_sum : (xs : List Placed) → sizes xs ≡ sum_by (λ (p : Placed). length p.table.bytes) xs
-sizes_sum [] = refl
-sizes_sum (x ∷ xs) = let h = sizes_sum xs in let c = sum_by-cons (λ (p : Placed). length p.table.bytes) x xs in omega arith
+sizes xs = tally size xs
 
 -- each slot lies in its table
 abbrev pub Fits : Placed → Type 0

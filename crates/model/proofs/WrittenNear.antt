@@ -1,5 +1,5 @@
 -- Behind extension tables no offset is too far, if each subtable's size is at most 65,535; and how long a lookup gets that is written.
-use Rattle.std.proofs.Common.{◌≡◌, ℕ, suc, ◌+◌, ◌*◌, ◌^◌, ◌<◌, ◌≤◌, Bool, true, false, cond, ltb, List, [], ◌∷◌, ◌++◌, map, length, is_some, Some, None, sum_by, Option, sym, refl, ap, ◌∙◌, subst, arith}
+use Rattle.std.proofs.Common.{◌≡◌, ℕ, suc, ◌+◌, ◌*◌, ◌^◌, ◌<◌, ◌≤◌, Bool, true, false, cond, ltb, List, [], ◌∷◌, ◌++◌, map, length, is_some, Some, None, sum_by, Option, refl, ap, ◌∙◌, subst, arith}
 use Rattle.std.specs.List.{flat_map, AllByRecursion}
 use Rattle.std.proofs.ByRecursion.{All-append, All-map, All-weaker}
 use Rattle.std.proofs.lemmas.List.{length-map}
@@ -13,7 +13,8 @@ use Rattle.model.specs.Sound.{Lawful, Distinct, GoodSubtable, GoodLookup, glyphs
 use Rattle.model.specs.Writing.{Start, starts_in, subtable_order, extensions_of, write_order, too_far, overflows, written}
 use Rattle.model.proofs.Lists.{all_joined, all_both, all_any, option_few}
 use Rattle.model.proofs.LayPlaces.{ahead}
-use Rattle.model.proofs.LayStarts.{size, sizes, sizes_append, sizes_sum, Sits}
+use Rattle.model.proofs.NumberSums.{tally_append, tally_sum}
+use Rattle.model.proofs.LayStarts.{size, sizes, Sits}
 use Rattle.model.proofs.LayLookups.{set_tables, ligature_tables, size_lookup, body_size, SubtableLies, lookup_lies, length_written}
 use Rattle.model.proofs.WrittenTables.{Near, near_all, all_near, slots_near, near_subtable, heads, set_vertices, ligature_vertices}
 use Rattle.model.proofs.PartsBytes.{touched_sets, bytes_subtable, bytes_set, bytes_ligatures}
@@ -21,7 +22,7 @@ use Rattle.model.proofs.KeepGlyphs.{sets_full}
 
 -- THE SIZE OF A SUBTABLE is what its tables take, its coverage apart
 entry_sizes : (c i j : ℕ) (t : LigatureSet) (gs : List Ligature) → sum_by entry_size (entries_from i j t gs) ≡ 2 * length gs + sizes (map (ligature_table c) gs)
-entry_sizes c i j t gs = bytes_ligatures c i j t gs ∙ ap (λ k. 2 * length gs + k) (sym (sizes_sum (map (ligature_table c) gs)))
+entry_sizes c i j t gs = bytes_ligatures c i j t gs ∙ ap (λ k. 2 * length gs + k) (tally_sum size (map (ligature_table c) gs))
 
 set_sizes : (c i : ℕ) (ts : List LigatureSet)
     → 2 * length ts + sum_by entry_size (sets_from i ts) ≡ sizes (map (set_table c) ts) + sizes (flat_map (λ (t : LigatureSet). map (ligature_table c) t.ligatures) ts)
@@ -31,7 +32,7 @@ set_sizes c i (t ∷ ts) =
     let a = sum_by-append entry_size (entries_from i 0 t t.ligatures) (sets_from (suc i) ts) in
     let b = entry_sizes c i 0 t t.ligatures in
     let d = bytes_set c t in
-    let e = sizes_append (map (ligature_table c) t.ligatures) (flat_map (λ (u : LigatureSet). map (ligature_table c) u.ligatures) ts) in
+    let e = tally_append size (map (ligature_table c) t.ligatures) (flat_map (λ (u : LigatureSet). map (ligature_table c) u.ligatures) ts) in
     omega arith
 
 pub size_body : (s : Subtable) → AllByRecursion (λ (t : LigatureSet). 0 < length t.ligatures) s.sets → subtable_size s ≡ body_size s
@@ -89,7 +90,7 @@ pub sizes_extensions : (subs : List Subtable) → sizes (extensions_of subs) ≤
 sizes_extensions [] = omega arith
 sizes_extensions (s ∷ subs) =
     let h = sizes_extensions subs in
-    let a = sizes_append (extension_walk s.extension s.vertex) (extensions_of subs) in
+    let a = tally_append size (extension_walk s.extension s.vertex) (extensions_of subs) in
     let b = sizes_extension s.extension s.vertex in
     omega arith
 
@@ -144,7 +145,7 @@ sizes_subtables : (subs : List Subtable) → AllByRecursion Small subs → sizes
 sizes_subtables [] a = omega arith
 sizes_subtables (s ∷ subs) a =
     let h = sizes_subtables subs a.1 in
-    let b = sizes_append (subtable_order s) (flat_map subtable_order subs) in
+    let b = tally_append size (subtable_order s) (flat_map subtable_order subs) in
     let c = a.0 in
     omega arith
 
@@ -160,8 +161,8 @@ module _ (admits : List ℕ → Type 0) (meaning : List ℕ → Option Meant) (s
       let z = bytes_subtable s in
       let glyphs = length-map s.sets (λ (t : LigatureSet). t.first) in
       let cover = lawful.short s.covering (glyphs_of s) (length s.covering) good.means in
-      let a = sizes_append (set_tables s) (ligature_tables s ++ coverage_table s ∷ []) in
-      let b = sizes_append (ligature_tables s) (coverage_table s ∷ []) in
+      let a = tally_append size (set_tables s) (ligature_tables s ++ coverage_table s ∷ []) in
+      let b = tally_append size (ligature_tables s) (coverage_table s ∷ []) in
       omega arith
 
   pub written_short : (l : Lookup) → GoodLookup meaning l → Distinct (map vertex_of (lookup_walk l)) → overflows l ≡ false → length (written l) < 256 ^ 4
@@ -175,8 +176,8 @@ module _ (admits : List ℕ → Type 0) (meaning : List ℕ → Option Meant) (s
       let small = All-weaker (λ (s : Subtable). GoodSubtable meaning s × Lies s) Small (λ s x. subtable_small ss bs m s x.0 x.1) subs
       (all_both (GoodSubtable meaning) Lies subs good.subtables h.subtables) in
       let e = length_written l in
-      let f = sizes_sum (write_order l) in
-      let a = sizes_append (extensions_of subs) (flat_map subtable_order subs) in
+      let f = tally_sum size (write_order l) in
+      let a = tally_append size (extensions_of subs) (flat_map subtable_order subs) in
       let b = sizes_subtables subs small in
       let few = good.count in
       let c = head_short l few in
