@@ -15,6 +15,7 @@ ghost use Rattle.cover_text.specs.Text.{runs_text, hex_text, reading, reading_te
 use coverage::codec::CoverageCodec;
 use coverage_list::ListCodec;
 use coverage_opentype::opentype::OpenTypeCodec;
+use coverage_opentype::ranges::follows;
 use data_bytes::word_at;
 use refusals::CodecFault;
 use std::alloc::{AllocError, Global};
@@ -26,7 +27,7 @@ fn runs(heap: Global, glyphs: &[u16]) -> Result<String, AllocError>
     ensures { IfOk result (λ t. string_bytes t ≡ runs_text glyphs.now) }
 {
     let mut text = String::new(heap);
-    for run in glyphs.chunk_by(|glyph, next| *next as u32 == *glyph as u32 + 1) {
+    for run in glyphs.chunk_by(follows) {
         match run {
             [glyph] => write!(text, " {glyph}")?,
             [start, .., last] => write!(text, " {start}-{last}")?,
@@ -37,6 +38,7 @@ fn runs(heap: Global, glyphs: &[u16]) -> Result<String, AllocError>
 }
 
 // Bytes in hex, two digits each.
+// Only printed, so it needs no equality.
 #[derive(Clone, Copy)]
 struct Hex<'a>(&'a [u8]);
 
@@ -113,7 +115,7 @@ fn table<C: FixedCodec>(heap: Global, codec: &C, glyphs: &[u16]) -> Result<Vec<u
     Ok(out)
 }
 
-// All glyphs that the bytes mean, by their number.
+// All glyphs that the bytes mean. Their number is known already from the codec, so they are not counted twice.
 fn glyphs_of(heap: Global, bytes: &[u8], count: usize) -> Result<Vec<u16>, AllocError>
     requires { Ok count ≡ counted (open_type_meaning bytes.now) }
     ensures { IfOk result (λ v. v.items ≡ glyphs_meant (open_type_meaning bytes.now)) }

@@ -339,12 +339,6 @@ side_of r g =
     (cases_lt g r.start))
     (cases_lt r.end g)
 
-less_no_equal : {A : Type 0} → Less ≡ Equal → A
-less_no_equal e = let z : ◌≡◌ {A = ℕ} 0 1 = ap ordering_index e in absurd (omega arith)
-
-greater_no_equal : {A : Type 0} → Greater ≡ Equal → A
-greater_no_equal e = let z : ◌≡◌ {A = ℕ} 2 1 = ap ordering_index e in absurd (omega arith)
-
 sides_apart : (r s : GlyphRange) (g : ℕ) → r.end < s.start → s.start ≤ s.end → ordering_index (side r g) ≤ ordering_index (side s g)
 sides_apart r s g a b =
     elim (side_of r g) [
@@ -358,7 +352,7 @@ outside r g h =
     elim (side_of r g) [
       | lies_before p f ↦ inl p
       | lies_behind p q f ↦ inr q
-      | has_it p q f ↦ ⊎_elim (λ e. less_no_equal (sym e ∙ f)) (λ e. greater_no_equal (sym e ∙ f)) h
+      | has_it p q f ↦ ⊎_elim (λ e. absurd (cc)) (λ e. absurd (cc)) h
     ]
 
 -- what a binary search by sides tells, as it was made over the records
@@ -383,8 +377,8 @@ module _ (xs : List (List ℕ)) (rs : List GlyphRange) (g : ℕ) (e : map range_
       let up = rises_covered rs (subst Order e (order (map range_of xs) o)) in
       let here = ap (λ (z : GlyphRange). side z g) is ∙ h in
       elim (side_of r g) [
-        | lies_before p f ↦ less_no_equal (sym f ∙ here)
-        | lies_behind p q f ↦ greater_no_equal (sym f ∙ here)
+        | lies_before p f ↦ absurd (cc)
+        | lies_behind p q f ↦ absurd (cc)
         | has_it p q f ↦
             let v = t.glyph (g - r.start) (omega arith) in
             (q, sym (index_at g (covered rs) (r.index + (g - r.start)) up (omega arith) (omega arith)))

@@ -38,12 +38,17 @@ run_stops : (s l i : ℕ) (rest : List ℕ) → (0 < length rest → eqb (get_or
 run_stops s l i [] h = refl
 run_stops s l i (g ∷ gs) h = runs_break s l i g gs (λ e. both_ways _ (h (omega arith)) (eq-eqb g (suc l) e))
 
+-- the glyphs of one part count up
+pub part_counts : (gs xs rest : List ℕ) → gs ≡ xs ++ rest → IsChunkByPrefix follows_it gs (length xs) → (k : ℕ) → k < length xs → get_or xs k 0 ≡ get_or xs 0 0 + k
+part_counts gs xs rest e p k lt =
+    sym (ap (λ z. get_or z k 0) e ∙ get_or_append_left xs rest 0 k lt) ∙ counts_up gs (length xs) p k lt ∙ ap (λ z. z + k) (ap (λ z. get_or z 0 0) e ∙ get_or_append_left xs rest 0 0 (omega arith))
+
 -- one part is the first run of what was left
 pub one_run : (i : ℕ) (gs xs rest : List ℕ) → gs ≡ xs ++ rest → 0 < length xs → IsChunkByPrefix follows_it gs (length xs) → runs_at i gs ≡ run (get_or xs 0 0) (get_or xs (length xs - 1) 0) i ∷ runs_at (i + length xs) rest
 one_run i gs xs rest e some p =
     let s = get_or xs 0 0 in
     let m = length xs - 1 in
-    let at = (λ (k : ℕ) (lt : k < length xs). sym (ap (λ z. get_or z k 0) e ∙ get_or_append_left xs rest 0 k lt) ∙ counts_up gs (length xs) p k lt ∙ ap (λ z. z + k) (ap (λ z. get_or z 0 0) e ∙ get_or_append_left xs rest 0 0 some)) in
+    let at = part_counts gs xs rest e p in
     let last : get_or xs m 0 ≡ s + m = at m (omega arith) in
     let l = length-range_with_len s (suc m) in
     let is : xs ≡ range_with_len s (suc m) = ext_get_or 0 xs (range_with_len s (suc m)) (omega arith) (λ k lt. at k lt ∙ sym (get_or-range_with_len s (suc m) k 0 (omega arith))) in

@@ -12,6 +12,7 @@ abbrev pub Totalled : List GlyphRange → Option ℕ → Type 0
 Totalled rs None = in_order rs ≡ false
 Totalled rs (Some n) = (in_order rs ≡ true) × (small (covered rs) ≡ true) × (n ≡ length (covered rs))
 
+-- the ranges that a table means, or that it means nothing in format 2
 abbrev pub TableRead : List ℕ → Result RangeTable CodecFault → Type 0
 TableRead bs (Ok rs) = range_meaning bs ≡ Some (meant rs)
 TableRead bs (Err e) = (range_meaning bs ≡ None) × (e ≡ NoMeaning)

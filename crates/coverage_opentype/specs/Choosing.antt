@@ -1,7 +1,7 @@
 -- The OpenType codec: bytes mean something in one format at most, and the shorter format is written.
-use Rattle.std.specs.Prelude.{◌≡◌, ℕ, ◌+◌, ◌*◌, ◌%◌, ◌<◌, ◌≤◌, false, ◌&&◌, ◌⊎◌, List, ◌++◌, length, take, drop, Some, None, Ok, Err, Option, ◌==◌, nat_le, refl}
+use Rattle.std.specs.Prelude.{◌≡◌, ℕ, ◌+◌, ◌*◌, ◌%◌, ◌<◌, ◌≤◌, ◌⊎◌, List, ◌++◌, length, take, drop, Some, None, Ok, Err, Option, refl}
 use Rattle.std.proofs.Common.{sym, ap, ◌∙◌, inl, inr, ⊎_elim, arith}
-use Rattle.std.proofs.lemmas.Bool.{both_ways, and_from, le-leb, lt-leb, lt-ltb, le-ltb, eq-eqb, cases_lt, cond-true, cond-false}
+use Rattle.std.proofs.lemmas.Bool.{le-leb, lt-leb, lt-ltb, le-ltb, cases_lt, cond-true, cond-false}
 use Rattle.refusals.specs.declared.CodecFault.TheVariants.{NoSpace}
 use Rattle.data_bytes.specs.BigEndian.{word16}
 use Rattle.data_bytes.proofs.ValueLists.{laid}
@@ -13,7 +13,6 @@ use Rattle.coverage_list.specs.Arrays.{no_array, length-array_bytes}
 use Rattle.coverage_opentype.specs.Format2.{range_meaning, runs, range_bytes, range_span}
 use Rattle.coverage_opentype.specs.OpenType.{or_else, open_type_meaning, open_type_bytes, open_type_span}
 use Rattle.coverage_opentype.specs.Covering as ranges
-use Rattle.coverage_opentype.specs.Covering.{Table, no_table_lem}
 use Rattle.coverage_opentype.specs.Unbroken.{runs_few}
 use Rattle.coverage_opentype.specs.Rendering as rendering
 use Rattle.coverage_opentype.specs.Rendering.{length-range_bytes}
@@ -31,11 +30,8 @@ pub meant_by_array : (bs : List ℕ) → range_meaning bs ≡ None → open_type
 unfolding open_type_meaning
 meant_by_array bs h = ap (or_else (array_meaning bs)) h ∙ or_none (array_meaning bs)
 
-pub by_array : (bs : List ℕ) → (nat_le 4 (length bs) && word16 bs 0 == 2) ≡ false → array_meaning bs ≡ open_type_meaning bs
-by_array bs h = sym (meant_by_array bs (no_table_lem bs (λ t. both_ways _ h (and_from _ _ (le-leb _ _ t.four) (eq-eqb _ _ t.two)))))
-
 -- a meaning is one of the two formats'
-data EitherFormat (bs gs : List ℕ) (e : ℕ) : Type 0 where
+pub data EitherFormat (bs gs : List ℕ) (e : ℕ) : Type 0 where
   by_glyphs : array_meaning bs ≡ Some (gs, e) → EitherFormat bs gs e
   by_runs : range_meaning bs ≡ Some (gs, e) → EitherFormat bs gs e
 
@@ -43,7 +39,7 @@ or_cases : (a b : Option Meant) (m : Meant) → or_else a b ≡ Some m → (a �
 or_cases None b m h = inr h
 or_cases (Some x) b m h = inl h
 
-either : (bs gs : List ℕ) (e : ℕ) → open_type_meaning bs ≡ Some (gs, e) → EitherFormat bs gs e
+pub either : (bs gs : List ℕ) (e : ℕ) → open_type_meaning bs ≡ Some (gs, e) → EitherFormat bs gs e
 unfolding open_type_meaning
 either bs gs e h = ⊎_elim by_glyphs by_runs (or_cases (array_meaning bs) (range_meaning bs) (gs, e) h)
 

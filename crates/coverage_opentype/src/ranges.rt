@@ -66,6 +66,7 @@ fn count_up(start: u16, slots: &mut [u16])
 }
 
 /// The ranges of a format 2 table that means something, each as its six bytes.
+// Not `Copy`: a model that is copied must give its fields back.
 #[derive(Drop)]
 pub struct RangeTable<'a> {
     records: &'a [[u8; 6]],
@@ -191,8 +192,8 @@ impl<'a> RangeTable<'a> {
     }
 }
 
-// Whether a glyph is the next one behind another.
-fn follows(glyph: &u16, next: &u16) -> bool
+/// Whether a glyph is the next one behind another.
+pub fn follows(glyph: &u16, next: &u16) -> bool
     ensures { result ≡ (next.now == suc glyph.now) }
 {
     *glyph as usize + 1 == *next as usize
@@ -219,6 +220,7 @@ fn put_range(out: &mut [u8], k: usize, range: GlyphRange)
 }
 
 /// Writes a glyph list in format 2, a range for each unbroken run, to the front of a slice that is long enough.
+// The number of ranges is known already from the plan, so they are not counted twice.
 pub(crate) fn write_ranges(glyphs: &[u16], ranges: usize, out: &mut [u8])
     requires list { GlyphList glyphs.now }
     requires ranges { ranges ≡ length (runs glyphs.now) }
