@@ -1,10 +1,11 @@
 -- What is known of ranges in order as they are read: the walk that tests them, the glyphs that they cover, place by place, and where a glyph is found.
 use Rattle.coverage.specs.Meaning.{glyph_at}
 use Rattle.refusals.specs.declared.CodecFault.TheVariants.{PastEnd}
-use Rattle.std.specs.Prelude.{Ok, Err, map, ◌/◌, ◌≡◌, ℕ, zero, suc, ◌+◌, ◌-◌, ◌*◌, ◌<◌, ◌≤◌, Bool, true, false, cond, ◌&&◌, ◌≢◌, ◌⊎◌, List, [], ◌∷◌, ◌++◌, length, get_or, take, drop, Some, None, ◌==◌, nat_le, nat_lt, slice_index, refl}
+use Rattle.std.specs.Prelude.{Ok, Err, Result, Option, map, ◌/◌, ◌≡◌, ℕ, zero, suc, ◌+◌, ◌-◌, ◌*◌, ◌<◌, ◌≤◌, Bool, true, false, cond, ◌&&◌, ◌≢◌, ◌⊎◌, List, [], ◌∷◌, ◌++◌, length, get_or, take, drop, Some, None, ◌==◌, nat_le, nat_lt, slice_index, refl}
 use Rattle.std.proofs.Common.{sym, ap, ◌∙◌, subst, inl, inr, ⊎_elim, append_assoc, arith, add-zero, length-append}
 use Rattle.std.specs.List.{range_with_len, slice_range}
-use Rattle.std.specs.List.Sorted.{IsNonDecreasingBy, IsPartitionPoint}
+use Rattle.std.specs.List.Sorted.{IsNonDecreasingBy, IsPartitionPoint, IsSearchInRange, IsBinarySearchResult}
+use Rattle.std.specs.Result.{result_ok}
 use Rattle.std.specs.Ordering.{ordering_index}
 use Rattle.std.specs.declared.cmp.Ordering.{Ordering}
 use Rattle.std.specs.declared.cmp.Ordering.TheVariants.{Less, Equal, Greater}
@@ -355,6 +356,11 @@ outside r g h =
       | has_it p q f ↦ ⊎_elim (λ e. absurd (cc)) (λ e. absurd (cc)) h
     ]
 
+-- where a search found the range that has a glyph, or that none has it
+abbrev pub Searched : List (List ℕ) → List GlyphRange → ℕ → Option ℕ → Type 0
+Searched xs rs g None = None ≡ index_in g (covered rs)
+Searched xs rs g (Some k) = (r : GlyphRange) → r ≡ range_of (get_or xs k []) → (r.start ≤ g) × (Some (r.index + (g - r.start)) ≡ index_in g (covered rs))
+
 -- what a binary search by sides tells, as it was made over the records
 module _ (xs : List (List ℕ)) (rs : List GlyphRange) (g : ℕ) (e : map range_of xs ≡ rs) (o : in_order (map range_of xs) ≡ true) where
   sides_rise : (i j : ℕ) (d : List ℕ) → i ≤ j → j < length xs → ordering_index (side (range_of (get_or xs i d)) g) ≤ ordering_index (side (range_of (get_or xs j d)) g)
@@ -370,7 +376,7 @@ module _ (xs : List (List ℕ)) (rs : List GlyphRange) (g : ℕ) (e : map range_
       (λ h. let q : i ≡ j = omega arith in let f = ap (λ z. ordering_index (side (range_of (get_or xs z d)) g)) q in omega arith)
       (cases_lt i j)
 
-  pub search_found : (k : ℕ) (r : GlyphRange) → k < length xs → r ≡ range_of (get_or xs k []) → side (range_of (get_or xs k [])) g ≡ Equal → (r.start ≤ g) × (Some (r.index + (g - r.start)) ≡ index_in g (covered rs))
+  search_found : (k : ℕ) (r : GlyphRange) → k < length xs → r ≡ range_of (get_or xs k []) → side (range_of (get_or xs k [])) g ≡ Equal → (r.start ≤ g) × (Some (r.index + (g - r.start)) ≡ index_in g (covered rs))
   search_found k r lt is h =
       let t = kth_record xs rs k [] r e o lt is in
       let w = t.within in
@@ -384,7 +390,7 @@ module _ (xs : List (List ℕ)) (rs : List GlyphRange) (g : ℕ) (e : map range_
             (q, sym (index_at g (covered rs) (r.index + (g - r.start)) up (omega arith) (omega arith)))
       ]
 
-  pub search_missed : (i : ℕ) → (IsNonDecreasingBy (λ x. ordering_index (side (range_of x) g)) xs → IsPartitionPoint (λ x. side (range_of x) g ≡ Less) (λ x. side (range_of x) g ≡ Greater) xs i) → None ≡ index_in g (covered rs)
+  search_missed : (i : ℕ) → (IsNonDecreasingBy (λ x. ordering_index (side (range_of x) g)) xs → IsPartitionPoint (λ x. side (range_of x) g ≡ Less) (λ x. side (range_of x) g ≡ Greater) xs i) → None ≡ index_in g (covered rs)
   search_missed i h =
       let p = h sides_rise in
       let l = length-map xs range_of in
@@ -393,6 +399,10 @@ module _ (xs : List (List ℕ)) (rs : List GlyphRange) (g : ℕ) (e : map range_
       let at : get_or rs k (range_of []) ≡ range_of (get_or xs k []) = ap (λ z. get_or z k (range_of [])) (sym e) ∙ get_or-map range_of xs k [] (range_of []) (omega arith) in
       subst (λ (z : GlyphRange). (z.end < g) ⊎ (g < z.start)) (sym at)
       (outside (range_of (get_or xs k [])) g (⊎_elim (λ a. inl (p.0 k [] (omega arith) a)) (λ b. inr (p.1 k [] b (omega arith))) (cases_lt k i))))))
+
+  pub searched : (a : Result ℕ ℕ) → IsSearchInRange a (length xs) → IsBinarySearchResult (λ x. side (range_of x) g) xs a → Searched xs rs g (result_ok a)
+  searched (Ok k) range at = λ r is. search_found k r range is (at [])
+  searched (Err i) range at = search_missed i at
 
 -- copying: the range's glyphs laid behind those of the ranges before it
 pub copied_more : (before mine old now next : List ℕ) (i : ℕ) → i ≡ length before → now ≡ before ++ drop (length before) old → next ≡ take i now ++ (mine ++ drop (i + length mine) now) → next ≡ (before ++ mine) ++ drop (length (before ++ mine)) old

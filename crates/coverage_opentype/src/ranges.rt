@@ -169,13 +169,9 @@ impl<'a> RangeTable<'a> {
                 Ordering::Equal
             }
         };
-        match self.records.binary_search_by(side) {
-            Ok(place) => {
-                let range = GlyphRange::from(self.records[place]);
-                Some(range.index as usize + (glyph - range.start) as usize)
-            }
-            Err(_) => None,
-        }
+        let place = self.records.binary_search_by(side).ok()?;
+        let range = GlyphRange::from(self.records[place]);
+        Some(range.index as usize + (glyph - range.start) as usize)
     }
 
     /// Copies all glyphs that it covers to the front of a slice, and tells how many they are.

@@ -1,15 +1,20 @@
-use Rattle.std.proofs.Common.{◌≡◌, ◌++◌, length, drop, sym, ap, ◌∙◌, arith}
+use Rattle.std.proofs.Common.{◌≡◌, ◌++◌, length, drop, ap, ◌∙◌, sym, arith}
 use Rattle.coverage_opentype.specs.Format2.{covered}
 use Rattle.coverage_opentype.proofs.Reading.{Kth, kth_record, copied_more}
 use Rattle.coverage_opentype.proofs.ranges.RangeTable.copy_to.Goals as goal
+use Rattle.coverage_opentype.proofs.ranges.RangeTable.copy_to.Goals.{After-from}
+
+-- what is known of the range at hand
+at_hand : (c : goal.After-from) → Kth c.args.self.now c.loop-record.record-index c.from.result
+at_hand c = kth_record _ _ _ _ _ c.self.view_is c.self.invariant.0 c.loop-record-test.true c.from.ensures
 
 pub copy_to-requires : goal.copy_to-requires
 copy_to-requires c =
-    let t : Kth c.args.self.now c.loop-record.record-index c.from.result = kth_record _ _ _ _ _ c.self.view_is c.self.invariant.0 c.loop-record-test.true c.from.ensures in
+    let t = at_hand (goal.at.copy_to-requires c).After-from in
     let n : c.self.inside.glyphs ≡ length (covered c.args.self.now) = c.self.invariant.1 ∙ ap (λ z. length (covered z)) c.self.view_is in
     (t.goes, omega (arith, t.within))
 
 pub loop-record-preserved : goal.loop-record-preserved
 loop-record-preserved c =
-    let t : Kth c.args.self.now c.loop-record.record-index c.from.result = kth_record _ _ _ _ _ c.self.view_is c.self.invariant.0 c.loop-record-test.true c.from.ensures in
+    let t = at_hand (goal.at.loop-record-preserved c).After-from in
     copied_more _ _ _ _ _ _ t.index c.loop-record.invariant c.copy_to.ensures ∙ ap (λ z. z ++ drop (length z) c.args.out.now) (sym t.more)
