@@ -181,10 +181,5 @@ tells_as : (ws : List ℕ) (x : Result Stream ℕ) → parse ws ≡ x → Tells 
 tells_as ws (Ok s) e = (s, (streams_spell_lem ws s).0 e, refl)
 tells_as ws (Err i) e = (i, (misfits_tell_lem ws i).0 e, refl)
 
--- both promises of an answer
-pub record Answer (ws : List ℕ) (r : Result StreamCounts Refusal) : Type 0 where
-  pub answers : r ≡ scanned ws
-  pub means : Tells ws r
-
-pub answer : (ws : List ℕ) (r : Result StreamCounts Refusal) → r ≡ scanned ws → Answer ws r
-answer ws r e = record { answers = e; means = subst (Tells ws) (sym e) (tells_as ws (parse ws) refl) }
+pub tells : (ws : List ℕ) (r : Result StreamCounts Refusal) → r ≡ scanned ws → Tells ws r
+tells ws r e = subst (Tells ws) (sym e) (tells_as ws (parse ws) refl)

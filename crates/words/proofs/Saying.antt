@@ -7,10 +7,10 @@ use Rattle.words.specs.declared.Token.{Token}
 use Rattle.words.specs.Words.{kinds, kind_among, code_of, room_of, Fits, word_of, token_with, token_of}
 
 pub none_some : {X : Type 0} {x : X} → None ≡ Some x → ⊥
-none_some e = let z : ◌≡◌ {A = ℕ} 0 1 = cc in omega arith
+none_some e = cc
 
 pub cons_nil : {X : Type 0} {x : X} {xs : List X} → x ∷ xs ≡ [] → ⊥
-cons_nil e = let z : ◌≡◌ {A = ℕ} 0 1 = cc in omega arith
+cons_nil e = cc
 
 code_kind : (ks : List WordKind) (c : ℕ) (k : WordKind) → kind_among ks c ≡ Some k → code_of k ≡ c
 code_kind [] c k e = absurd (none_some e)

@@ -5,10 +5,17 @@ use Rattle.std.proofs.lemmas.Bool.{eqb-true, eqb-false}
 use Rattle.data_bytes.specs.BigEndian.{word16}
 use Rattle.coverage.proofs.Lists.{rises_by}
 use Rattle.coverage_list.specs.Arrays.{no_array}
-use Rattle.coverage_list.proofs.Pairs.{counted_pairs, pairs_mean, no_pairs, falling_pairs}
+use Rattle.coverage_list.proofs.Pairs.{Counted, counted_pairs, pairs_mean, no_pairs, falling_pairs}
 use Rattle.coverage_list.proofs.array_pairs.Goals as goal
+use Rattle.coverage_list.proofs.array_pairs.Goals.{After-as_chunks}
 use Rattle.coverage_list.proofs.array_pairs.Goals.{then-bytes-lt4-via-then-bytes-lt4, then-bytes-lt4-via-else-bytes-lt4+then-word_at-ne1}
 use Rattle.coverage_list.proofs.array_pairs.Goals.{then-is_empty-via-then-is_empty, then-is_empty-via-else-is_empty+then-not-is_sorted_by}
+
+-- the pairs are as many as the count says
+counted : (c : goal.After-as_chunks) → Counted c.args.bytes.now c.as_chunks.result.0.now
+counted c =
+    let cut = MatchOption-at_some _ _ _ c.in_ok-glyphs.ensures.ok_part c.get.ensures.lookup.0 in
+    counted_pairs c.args.bytes.now _ _ _ c.word_at-2.ensures cut c.as_chunks.ensures.front c.as_chunks.ensures.front_len
 
 pub returns-then-bytes-lt4 : goal.returns-then-bytes-lt4
 returns-then-bytes-lt4 c = (
@@ -27,8 +34,7 @@ returns-in_err-glyphs c =
 
 pub returns-then-is_empty : goal.returns-then-is_empty
 returns-then-is_empty c =
-    let cut = MatchOption-at_some _ _ _ c.in_ok-glyphs.ensures.ok_part c.get.ensures.lookup.0 in
-    let p = counted_pairs c.args.bytes.now _ _ _ c.word_at-2.ensures cut c.as_chunks.ensures.front c.as_chunks.ensures.front_len in (
+    let p = counted (goal.at.returns-then-is_empty c).After-as_chunks in (
       refl,
       elim c.then-is_empty.branch [
         | then-is_empty-via-then-is_empty w ↦ no_pairs _ _ p (eqb-true _ _ (sym w.if-is_empty.ensures))
@@ -39,7 +45,6 @@ returns-then-is_empty c =
 
 pub returns : goal.returns
 returns c =
-    let cut = MatchOption-at_some _ _ _ c.in_ok-glyphs.ensures.ok_part c.get.ensures.lookup.0 in
-    let p = counted_pairs c.args.bytes.now _ _ _ c.word_at-2.ensures cut c.as_chunks.ensures.front c.as_chunks.ensures.front_len in
+    let p = counted (goal.at.returns c).After-as_chunks in
     pairs_mean _ _ p (omega arith) (omega arith) (λ i. omega (arith, c.type_inv.bytes i)) (eqb-false _ _ (sym c.if-is_empty.ensures))
     (sym c.if-not-is_sorted_by.false ∙ rises_by (λ pair. word16 pair 0) _ _ (c.is_sorted_by.ensures.cases (λ a b. ltb (word16 a 0) (word16 b 0)) (answers_always _ _ _ (λ f a r g called. search rules))))

@@ -2,7 +2,7 @@
 use Rattle.std.proofs.Common.{Err, ap, ◌∙◌, arith}
 use Rattle.std.proofs.lemmas.Result.{err_from_is_err_and}
 use Rattle.refusals.specs.declared.Refusal.TheVariants.{BadWord}
-use Rattle.words.proofs.Counting.{at_start, ok_or_none, again, unfit, ended, unended, answer}
+use Rattle.words.proofs.Counting.{at_start, ok_or_none, again, unfit, ended, unended, tells}
 use Rattle.words.proofs.scan.Goals as goal
 
 pub loop-index-init : goal.loop-index-init
@@ -18,8 +18,8 @@ returns-in_err-reading c =
     let p = err_from_is_err_and c.from_residual.result c.from_residual.ensures.1 in
     let v = ok_or_none c.step.result (BadWord c.loop-index.index) c.in_err-reading.field-0.0 h.value h.ok_part in
     let u = unfit ws c.loop-index.index c.loop-index.reading c.step.result c.loop-index-test.true c.loop-index.invariant c.step.ensures h.ok_part in
-    let a = answer ws c.from_residual.result (p.1 ∙ ap Err (p.2 ∙ v) ∙ u) in
-    record { answers = a.answers; means = a.means }
+    let a = p.1 ∙ ap Err (p.2 ∙ v) ∙ u in
+    record { answers = a; means = tells ws _ a }
 
 pub loop-index-preserved : goal.loop-index-preserved
 loop-index-preserved c =
@@ -30,11 +30,11 @@ loop-index-preserved c =
 pub returns-in-Closed : goal.returns-in-Closed
 returns-in-Closed c =
     let ws = c.args.words.now in
-    let a = answer ws _ (ended ws c.loop-index.index c.loop-index.reading c.loop-index-test.false c.loop-index.invariant c.in-Closed.is) in
-    record { answers = a.answers; means = a.means }
+    let a = ended ws c.loop-index.index c.loop-index.reading c.loop-index-test.false c.loop-index.invariant c.in-Closed.is in
+    record { answers = a; means = tells ws _ a }
 
 pub returns-in_default : goal.returns-in_default
 returns-in_default c =
     let ws = c.args.words.now in
-    let a = answer ws _ (unended ws c.loop-index.index c.loop-index.reading c.loop-index-test.false c.loop-index.auto.index-end c.loop-index.invariant c.in_default.not-Closed) in
-    record { answers = a.answers; means = a.means }
+    let a = unended ws c.loop-index.index c.loop-index.reading c.loop-index-test.false c.loop-index.auto.index-end c.loop-index.invariant c.in_default.not-Closed in
+    record { answers = a; means = tells ws _ a }

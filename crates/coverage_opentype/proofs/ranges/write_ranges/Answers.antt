@@ -1,10 +1,20 @@
-use Rattle.std.proofs.Common.{◌≡◌, arith, rules}
+use Rattle.std.proofs.Common.{◌≡◌, ◌+◌, ◌<◌, ◌≤◌, length, arith, rules}
+use Rattle.std.specs.List.{IsChunkByPrefix}
 use Rattle.std.proofs.lemmas.List.Sorted.{answers_always}
 use Rattle.coverage.proofs.Lists.{listed}
+use Rattle.coverage_opentype.specs.Format2.{runs}
 use Rattle.coverage_opentype.specs.Unbroken.{runs_few}
 use Rattle.coverage_opentype.proofs.Runs.{follows_it}
 use Rattle.coverage_opentype.proofs.Writing.{begin, more_to_write, written_none, written_more, written_all}
 use Rattle.coverage_opentype.proofs.ranges.write_ranges.Goals as goal
+use Rattle.coverage_opentype.proofs.ranges.write_ranges.Goals.{In-Some}
+
+-- the part at hand is a run, and what is written leaves room for it
+unbroken : (c : goal.In-Some) → IsChunkByPrefix follows_it c.loop-done.done-iterator.iter.rest.now (length c.in-Some.run'.now)
+unbroken c = (c.in-Some.ensures.steps.0.2 follows_it (answers_always _ _ _ (λ s a r q e. search rules))).1
+
+more : (c : goal.In-Some) → (c.loop-done.done-iterator.count < length (runs c.args.glyphs.now)) × (c.loop-done.index + length c.in-Some.run'.now ≤ length c.args.glyphs.now)
+more c = let f = c.in-Some.ensures.steps in more_to_write _ _ _ _ _ _ _ _ c.loop-done.invariant f.0.0 f.0.1 (unbroken c)
 
 pub overflow_cast-ranges : goal.overflow_cast-ranges
 overflow_cast-ranges c =
@@ -25,18 +35,14 @@ loop-done-init c =
 
 pub overflow_cast-range : goal.overflow_cast-range
 overflow_cast-range c =
-    let f = c.in-Some.ensures.steps in
-    let p = (f.0.2 follows_it (answers_always _ _ _ (λ s a r q e. search rules))).1 in
-    let m = (more_to_write _ _ _ _ _ _ _ _ c.loop-done.invariant f.0.0 f.0.1 p).1 in
+    let m = (more (goal.at.overflow_cast-range c).In-Some).1 in
     let l = (listed c.args.glyphs.now c.requires.list).few in
     search rules
 
 pub put_range-requires : goal.put_range-requires
 put_range-requires c =
-    let f = c.in-Some.ensures.steps in
-    let p = (f.0.2 follows_it (answers_always _ _ _ (λ s a r q e. search rules))).1 in
-    let m = (more_to_write _ _ _ _ _ _ _ _ c.loop-done.invariant f.0.0 f.0.1 p).0 in
-    let d = f.1 in
+    let m = (more (goal.at.put_range-requires c).In-Some).0 in
+    let d = c.in-Some.ensures.steps.1 in
     let a = c.put_word.auto.bytes in
     let b = c.put_word-2.auto.bytes in
     let k = c.loop-done.auto.out in
@@ -45,17 +51,14 @@ put_range-requires c =
 
 pub overflow_add-index : goal.overflow_add-index
 overflow_add-index c =
-    let f = c.in-Some.ensures.steps in
-    let p = (f.0.2 follows_it (answers_always _ _ _ (λ s a r q e. search rules))).1 in
-    let m = (more_to_write _ _ _ _ _ _ _ _ c.loop-done.invariant f.0.0 f.0.1 p).1 in
+    let m = (more (goal.at.overflow_add-index c).In-Some).1 in
     let l = (listed c.args.glyphs.now c.requires.list).few in
     search rules
 
 pub loop-done-preserved : goal.loop-done-preserved
 loop-done-preserved c =
     let f = c.in-Some.ensures.steps in
-    let p = (f.0.2 follows_it (answers_always _ _ _ (λ s a r q e. search rules))).1 in
-    written_more _ _ _ _ _ _ _ _ c.loop-done.invariant f.0.0 f.0.1 p _ _ _ f.1 f.2 c.put_range.ensures
+    written_more _ _ _ _ _ _ _ _ c.loop-done.invariant f.0.0 f.0.1 (unbroken (goal.at.loop-done-preserved c).In-Some) _ _ _ f.1 f.2 c.put_range.ensures
 
 pub returns : goal.returns
 returns c = written_all _ _ _ _ _ _ c.in-None.ensures.steps.0.0 c.loop-done.invariant
