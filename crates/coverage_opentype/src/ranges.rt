@@ -115,12 +115,8 @@ impl<'a> RangeTable<'a> {
         }
         let ranges = word_at(bytes, 2) as usize;
         let (records, _) = bytes[4..].as_chunks::<6>();
-        let Some(records) = records.get(..ranges) else {
-            return Err(CodecFault::NoMeaning);
-        };
-        let Some(glyphs) = covered_count(records) else {
-            return Err(CodecFault::NoMeaning);
-        };
+        let records = records.get(..ranges).ok_or(CodecFault::NoMeaning)?;
+        let glyphs = covered_count(records).ok_or(CodecFault::NoMeaning)?;
         if glyphs == 0 || glyphs > 65535 {
             return Err(CodecFault::NoMeaning);
         }
