@@ -117,7 +117,7 @@ impl CoverageCodec for ListCodec {
         if count > out.len() {
             return Err(CodecFault::NoSpace);
         }
-        // By index: once a zip with `iter_mut` is over, a proof knows none of the elements.
+        // By place: after a zip with `iter_mut` a proof knows no element, and `iter_mut().enumerate()` would only index `pairs` in place of `out`.
         for (i, pair) in pairs.iter().enumerate() {
             out[i] = pair_glyph(pair);
         }
