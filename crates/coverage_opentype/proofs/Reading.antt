@@ -12,7 +12,7 @@ use Rattle.std.specs.declared.cmp.Ordering.TheVariants.{Less, Equal, Greater}
 use Rattle.std.proofs.lemmas.List.Concat.{flat_map-append, get_or-flat_map}
 use Rattle.std.proofs.lemmas.List.Folds.{length-flat_map-take}
 use Rattle.std.proofs.lemmas.List.FromFn.{get_or-range_with_len}
-use Rattle.std.proofs.lemmas.List.{append-nil, at_drop_all, take_more, take_all, drop_more, get_or_append_left, length-drop, get_or-map, get_or-take, get_or-drop, drop-drop, length-map, get_or-append_right, take_at}
+use Rattle.std.proofs.lemmas.List.{append-nil, at_drop_all, take_more, take_all, drop_more, get_or_append_left, length-drop, get_or-map, get_or-take, drop-drop, length-map, get_or-append_right, take_at}
 use Rattle.std.proofs.lemmas.Slice.{drop-append-drop}
 use Rattle.std.proofs.lemmas.Bool.{both_ways, and_parts, and_from, and_left, and_right, leb-true, eqb-true, lt-ltb, le-ltb, le-leb, lt-leb, eq-eqb, ne_eqb, cases_lt, cond-true, cond-false}
 use Rattle.data_bytes.specs.BigEndian.{word16}
@@ -231,20 +231,17 @@ walked_all rs k low n le w =
     (w.keeps ∙ at_drop_all (order_from low n) rs k le, w.narrow ∙ at_drop_all (λ (t : List GlyphRange). small (covered t)) rs k le, omega arith)
 
 -- the records of a table are its ranges
-byte_at : (bs : List ℕ) (p j q : ℕ) → j < 6 → p + j ≡ q → get_or (take 6 (drop p bs)) j 0 ≡ get_or bs q 0
-byte_at bs p j q lt e = get_or-take 6 (drop p bs) j 0 lt ∙ get_or-drop p bs j 0 ∙ ap (λ z. get_or bs z 0) e
-
-word_in : (bs : List ℕ) (p j q : ℕ) → j < 5 → p + j ≡ q → word16 (take 6 (drop p bs)) j ≡ word16 bs q
-word_in bs p j q lt e =
-    let a = byte_at bs p j q (omega arith) e in
-    let b = byte_at bs p (j + 1) (q + 1) (omega arith) (omega arith) in
+word_in : (bs : List ℕ) (j : ℕ) → j < 5 → word16 (take 6 bs) j ≡ word16 bs j
+word_in bs j lt =
+    let a = get_or-take 6 bs j 0 (omega arith) in
+    let b = get_or-take 6 bs (j + 1) 0 (omega arith) in
     omega arith
 
-record_is : (bs : List ℕ) (i : ℕ) → range_of (take 6 (drop (4 + 6 * i) bs)) ≡ range_at_of bs i
-record_is bs i =
-    let a = word_in bs (4 + 6 * i) 0 (4 + 6 * i) (omega arith) (omega arith) in
-    let b = word_in bs (4 + 6 * i) 2 (6 + 6 * i) (omega arith) (omega arith) in
-    let d = word_in bs (4 + 6 * i) 4 (8 + 6 * i) (omega arith) (omega arith) in
+record_is : (bs : List ℕ) → range_of (take 6 bs) ≡ range_of bs
+record_is bs =
+    let a = word_in bs 0 (omega arith) in
+    let b = word_in bs 2 (omega arith) in
+    let d = word_in bs 4 (omega arith) in
     cc
 
 records_from : (bs : List ℕ) (n i : ℕ) → map range_of (first_chunks 6 n (drop (4 + 6 * i) bs)) ≡ map (range_at_of bs) (range_with_len i n)
@@ -254,7 +251,7 @@ records_from bs (suc n) i =
     let tail : drop 6 (drop p bs) ≡ drop (4 + 6 * (i + 1)) bs = drop-drop 6 p bs ∙ ap (λ z. drop z bs) (omega arith) in
     ap (λ t. range_of (take 6 (drop p bs)) ∷ map range_of (first_chunks 6 n t)) tail
     ∙ ap (λ t. range_of (take 6 (drop p bs)) ∷ t) (records_from bs n (i + 1))
-    ∙ ap (λ t. t ∷ map (range_at_of bs) (range_with_len (i + 1) n)) (record_is bs i)
+    ∙ ap (λ t. t ∷ map (range_at_of bs) (range_with_len (i + 1) n)) (record_is (drop p bs))
 
 first_of_chunks : (xs : List ℕ) (n m : ℕ) → n ≤ m → take n (first_chunks 6 m xs) ≡ first_chunks 6 n xs
 first_of_chunks xs zero m le = refl

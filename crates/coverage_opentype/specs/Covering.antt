@@ -1,9 +1,9 @@
 -- What is known of ranges in order: the glyphs that they cover, place by place, and what a table of them means.
-use Rattle.std.specs.Prelude.{◌≡◌, ℕ, zero, suc, ◌+◌, ◌-◌, ◌*◌, ◌%◌, ◌<◌, ◌≤◌, Bool, true, false, cond, ◌&&◌, List, [], ◌∷◌, ◌++◌, length, take, Some, None, nat_le, slice_index_or, refl}
+use Rattle.std.specs.Prelude.{◌≡◌, ℕ, zero, suc, ◌+◌, ◌-◌, ◌*◌, ◌%◌, ◌<◌, ◌≤◌, Bool, true, false, cond, ◌&&◌, List, [], ◌∷◌, ◌++◌, length, get_or, take, drop, Some, None, nat_le, slice_index_or, refl}
 use Rattle.std.proofs.Common.{sym, ap, ◌∙◌, inl, inr, arith, length-append}
 use Rattle.std.specs.List.{range_with_len}
 use Rattle.std.proofs.lemmas.List.FromFn.{length-range_with_len, length-map-range_with_len, get_or-map-range_with_len}
-use Rattle.std.proofs.lemmas.List.{ext_get_or}
+use Rattle.std.proofs.lemmas.List.{ext_get_or, get_or-drop}
 use Rattle.std.proofs.lemmas.Bool.{and_parts, and_from, leb-true, eqb-true, le-leb, eq-eqb, cases_Bool, cond-true, cond-false}
 use Rattle.data_bytes.specs.BigEndian.{word16}
 use Rattle.data_bytes.proofs.ValueLists.{word16_front, length_front}
@@ -64,8 +64,19 @@ ranges_at_same bs cs n h =
     ext_get_or d (ranges_at bs n) (ranges_at cs n) (omega arith)
     (λ k lt. get_d_ranges_at bs n k d (omega arith) ∙ h k (omega arith) ∙ sym (get_d_ranges_at cs n k d (omega arith)))
 
-same_range : (a b c a' b' c' : ℕ) → a ≡ a' → b ≡ b' → c ≡ c' → ◌≡◌ {A = GlyphRange} (record { start = a; end = b; index = c }) (record { start = a'; end = b'; index = c' })
-same_range a b c a' b' c' p q r = cc
+word16_drop : (p i q : ℕ) (bs : List ℕ) → p + i ≡ q → word16 (drop p bs) i ≡ word16 bs q
+word16_drop p i q bs e =
+    let a = get_or-drop p bs i 0 ∙ ap (λ z. get_or bs z 0) e in
+    let b : get_or (drop p bs) (i + 1) 0 ≡ get_or bs (q + 1) 0 = get_or-drop p bs (i + 1) 0 ∙ ap (λ z. get_or bs z 0) (omega arith) in
+    omega arith
+
+-- a range record by the places of its values
+pub range_at : (bs : List ℕ) (k x y z : ℕ) → word16 bs (4 + 6 * k) ≡ x → word16 bs (6 + 6 * k) ≡ y → word16 bs (8 + 6 * k) ≡ z → range_at_of bs k ≡ record { start = x; end = y; index = z }
+range_at bs k x y z p q s =
+    let a = word16_drop (4 + 6 * k) 0 (4 + 6 * k) bs (omega arith) ∙ p in
+    let b = word16_drop (4 + 6 * k) 2 (6 + 6 * k) bs (omega arith) ∙ q in
+    let c = word16_drop (4 + 6 * k) 4 (8 + 6 * k) bs (omega arith) ∙ s in
+    cc
 
 -- a table by its parts
 pub record Table (bs : List ℕ) : Type 0 where
@@ -115,7 +126,7 @@ pub record Meaning (bs gs : List ℕ) (e : ℕ) : Type 0 where
 
 some_cond : {A : Type 0} (b : Bool) (x y : A) → cond b (Some x) None ≡ Some y → (b ≡ true) × (x ≡ y)
 some_cond true x y h = (refl, cc)
-some_cond false x y h = let z : ◌≡◌ {A = ℕ} 0 1 = cc in absurd (omega arith)
+some_cond false x y h = absurd (cc)
 
 pub meaning : (bs gs : List ℕ) (e : ℕ) → range_meaning bs ≡ Some (gs, e) → Meaning bs gs e
 unfolding range_meaning
@@ -136,7 +147,9 @@ front bs gs more e h =
     let n = word16 bs 2 in
     let rs : ranges_at (take e bs ++ more) n ≡ ranges_at bs n =
     ranges_at_same (take e bs ++ more) bs n
-    (λ k lt. same_range _ _ _ _ _ _ (word16_front bs more e w (4 + 6 * k) (omega arith)) (word16_front bs more e w (6 + 6 * k) (omega arith)) (word16_front bs more e w (8 + 6 * k) (omega arith))) in
+    (λ k lt.
+    let same = λ (i q : ℕ) (is : 4 + 6 * k + i ≡ q) (le : i < 5). word16_front bs more e w q (omega arith) ∙ sym (word16_drop (4 + 6 * k) i q bs is) in
+    range_at (take e bs ++ more) k _ _ _ (same 0 _ (omega arith) (omega arith)) (same 2 _ (omega arith) (omega arith)) (same 4 _ (omega arith) (omega arith))) in
     table_found (take e bs ++ more) n (ranges_at bs n) (sym w2) (sym rs) (omega arith) (w0 ∙ m.is.two) (omega arith) m.is.order m.is.list
     ∙ sym (table_found bs n (ranges_at bs n) refl refl m.is.four m.is.two m.is.fits m.is.order m.is.list) ∙ h
 

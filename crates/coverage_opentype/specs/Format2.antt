@@ -1,5 +1,5 @@
 -- Coverage format 2 of OpenType: the value 2, the number of ranges, and the ranges, each a start glyph, an end glyph and the coverage index of its start.
-use Rattle.std.specs.Prelude.{ℕ, suc, ◌+◌, ◌-◌, ◌*◌, ◌<◌, Bool, true, cond, ◌&&◌, List, [], ◌∷◌, map, length, Some, None, Option, ◌==◌, nat_le, slice_index_or}
+use Rattle.std.specs.Prelude.{ℕ, suc, ◌+◌, ◌-◌, ◌*◌, ◌<◌, Bool, true, cond, ◌&&◌, List, [], ◌∷◌, map, length, drop, Some, None, Option, ◌==◌, nat_le, slice_index_or}
 use Rattle.std.specs.List.{flat_map, range_with_len}
 use Rattle.data_bytes.specs.BigEndian.{word16}
 use Rattle.data_bytes.specs.Values.{value_bytes}
@@ -47,7 +47,7 @@ record_bytes r = value_bytes (record_values r)
 
 -- the k-th range record
 abbrev pub range_at_of : List ℕ → ℕ → GlyphRange
-range_at_of bs k = record { start = word16 bs (4 + 6 * k); end = word16 bs (6 + 6 * k); index = word16 bs (8 + 6 * k) }
+range_at_of bs k = range_of (drop (4 + 6 * k) bs)
 
 -- the first n range records
 abbrev pub ranges_at : List ℕ → ℕ → List GlyphRange

@@ -9,7 +9,7 @@ use Rattle.coverage.specs.Glyphs.{is_glyph_list_of, GlyphList}
 use Rattle.coverage.proofs.Lists.{listed}
 use Rattle.coverage_opentype.specs.declared.ranges.GlyphRange.{GlyphRange}
 use Rattle.coverage_opentype.specs.Format2.{range_at_of, ranges_at, range_meaning, runs, range_values, range_bytes, range_span}
-use Rattle.coverage_opentype.specs.Covering.{table_found, in_order_lem, length-ranges_at, get_d_ranges_at}
+use Rattle.coverage_opentype.specs.Covering.{range_at, table_found, in_order_lem, length-ranges_at, get_d_ranges_at}
 use Rattle.coverage_opentype.specs.Unbroken.{covered_of_runs, order_of_runs}
 
 pub length-range_values : (rs : List GlyphRange) → length (range_values rs) ≡ 3 * length rs
@@ -45,12 +45,10 @@ rendered_at n rs more k d lt =
     let vs = 2 ∷ n ∷ range_values rs in
     let l = length-range_values rs in
     let h = get_d_range_values rs k d lt in
-    let a0 = value_of vs more (4 + 6 * k) (suc (suc (3 * k))) (omega arith) (omega arith) ∙ h.0 in
-    let a1 = value_of vs more (6 + 6 * k) (suc (suc (3 * k + 1))) (omega arith) (omega arith) ∙ h.1 in
-    let a2 = value_of vs more (8 + 6 * k) (suc (suc (3 * k + 2))) (omega arith) (omega arith) ∙ h.2 in
-    ap (λ z. record { start = z; end = word16 (value_bytes vs ++ more) (6 + 6 * k); index = word16 (value_bytes vs ++ more) (8 + 6 * k) }) a0
-    ∙ ap (λ z. record { start = (get_or rs k d).start; end = z; index = word16 (value_bytes vs ++ more) (8 + 6 * k) }) a1
-    ∙ ap (λ z. record { start = (get_or rs k d).start; end = (get_or rs k d).end; index = z }) a2
+    range_at (value_bytes vs ++ more) k _ _ _
+    (value_of vs more (4 + 6 * k) (suc (suc (3 * k))) (omega arith) (omega arith) ∙ h.0)
+    (value_of vs more (6 + 6 * k) (suc (suc (3 * k + 1))) (omega arith) (omega arith) ∙ h.1)
+    (value_of vs more (8 + 6 * k) (suc (suc (3 * k + 2))) (omega arith) (omega arith) ∙ h.2)
 
 rendered : (n : ℕ) (rs : List GlyphRange) (more : List ℕ) → ranges_at (value_bytes (2 ∷ n ∷ range_values rs) ++ more) (length rs) ≡ rs
 rendered n rs more =

@@ -1,6 +1,6 @@
-use Rattle.std.proofs.Common.{◌≡◌, ℕ, ◌≤◌, List, [], Ok, Err, Some, None, map, length, refl, sym, subst, ⊎_elim, arith, rules}
+use Rattle.std.proofs.Common.{◌≡◌, ℕ, ◌≤◌, List, [], Err, None, map, length, refl, sym, subst, ⊎_elim, arith, rules}
 use Rattle.std.specs.Prelude.{Result}
-use Rattle.std.proofs.lemmas.Option.{MatchOption-at_some, MatchOption-at_none}
+use Rattle.std.proofs.lemmas.Option.{MatchOption-at_some}
 use Rattle.refusals.specs.declared.CodecFault.{CodecFault}
 use Rattle.refusals.specs.declared.CodecFault.TheVariants.{NoMeaning}
 use Rattle.coverage_opentype.specs.declared.ranges.RangeTable.{RangeTable}
