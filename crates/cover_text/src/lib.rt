@@ -37,8 +37,7 @@ fn runs(heap: Global, glyphs: &[u16]) -> Result<String, AllocError>
     Ok(text)
 }
 
-// Bytes in hex, two digits each.
-// Only printed, so it needs no equality.
+// Bytes in hex, two digits each. Only printed, so it needs no equality.
 #[derive(Clone, Copy)]
 struct Hex<'a>(&'a [u8]);
 
@@ -53,7 +52,7 @@ impl fmt::Display for Hex<'_> {
     }
 }
 
-// What the list codec reads: how many glyphs and where they end, or why nothing.
+// What the list codec reads: how many glyphs and where they end, or why nothing. Only printed, too.
 #[derive(Clone, Copy)]
 struct ListReading<'a>(&'a [u8]);
 

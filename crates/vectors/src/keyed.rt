@@ -1,7 +1,7 @@
 // Keyed rows: a walk of puts and removes on four rows of each kind, with every row and many look-ups checked at each step.
 use rows::{LinkRow, LinkWidth, ParentRow, Row, RowKey, find, put, remove};
 
-// A row of any kind: its list, its place there, and what it holds.
+// A row of any kind: its list, its place there, and what it holds. Nothing compares or prints it.
 #[derive(Clone, Copy)]
 struct Entry(u32, u32, u32);
 
