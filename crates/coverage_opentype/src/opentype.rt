@@ -19,7 +19,8 @@ use refusals::CodecFault;
 #[derive(Clone, Copy, Debug, Default, PartialEq, Eq)]
 pub struct OpenTypeCodec;
 
-// The ranges of a format 2 table. Other bytes mean what they mean in format 1.
+// The ranges of a format 2 table. Other bytes mean what they mean in format 1: the calls below match on this, each with
+// another call of the two.
 fn ranges_of(bytes: &[u8]) -> Option<RangeTable<'_>>
     ensures { MatchOption result (open_type_meaning bytes.now ≡ array_meaning bytes.now) (λ ranges. open_type_meaning bytes.now ≡ Some (meant ranges)) }
 {

@@ -66,7 +66,7 @@ fn count_up(start: u16, slots: &mut [u16])
 }
 
 /// The ranges of a format 2 table that means something, each as its six bytes.
-// Not `Copy`: a model that is copied must give its fields back.
+// Not `Copy`, and without equality: a model with these must give its fields back.
 #[derive(Drop)]
 pub struct RangeTable<'a> {
     records: &'a [[u8; 6]],
@@ -141,6 +141,7 @@ impl<'a> RangeTable<'a> {
     pub fn glyph(&self, n: usize) -> Result<u16, CodecFault>
         ensures { result ≡ glyph_at (Some (meant self.now)) n }
     {
+        // From the front, as `read` went over all records already.
         for record in self.records {
             let range = GlyphRange::from(*record);
             let on = n - range.index as usize;
@@ -222,6 +223,7 @@ pub(crate) fn write_ranges(glyphs: &[u16], ranges: usize, out: &mut [u8])
     put_word(out, 0, 2);
     put_word(out, 2, ranges as u16);
     let mut index: usize = 0;
+    // By place: nothing is said of a slice once `as_chunks_mut` of it is over.
     for (done, run) in glyphs.chunk_by(follows).enumerate() {
         let range = GlyphRange {
             start: run[0],

@@ -26,6 +26,7 @@ pub struct VertexRow {
     /// In row n: the vertex of lookup n.
     pub lookup: u32,
     /// For the use of a call while it runs; zero otherwise.
+    // Numbers and no `Option`: a row in lent memory is zero in every field when it is not in use.
     pub entries: u32,
     pub queue: u32,
     pub reached: bool,
@@ -33,6 +34,7 @@ pub struct VertexRow {
 
 impl VertexRow {
     /// What a row holds that is not in use.
+    // One call of the default; it states which row that is.
     pub fn zero() -> VertexRow
         ensures { result ≡ zero_vertex }
     {

@@ -26,6 +26,7 @@ pub struct RowKey {
 
 impl RowKey {
     /// Whether this key stands before the other.
+    // The derived order, under the name that says what it means for rows.
     pub fn before(self, other: RowKey) -> bool
         ensures { result ≡ precedes self other }
     {
@@ -46,6 +47,7 @@ pub trait Row: Copy + Default {
 }
 
 /// How many bytes a link's offset takes in its owner's table. A virtual link takes none.
+// No `Option` of a width: `Zero` is also what a freed row has.
 #[derive(Clone, Copy, Debug, Default, PartialEq, Eq, Hash)]
 pub enum LinkWidth {
     #[default]
@@ -238,6 +240,7 @@ pub fn put<T: Row>(rows: &mut [T], used: usize, row: T) -> Option<usize>
 
 /// Takes the row with the key out of the first `used` rows, as `KeyedRows::remove` does, and answers how many rows are
 /// used then. Where `used` exceeds the slice, all its rows are used.
+// For a part of a slice, as `put`.
 pub fn remove<T: Row>(rows: &mut [T], used: usize, key: RowKey) -> usize
     ensures rows { Rising T.Row.key (take used rows.old) → rows.new ≡ without_row T.Row.key key (take used rows.old) ++ (replicate (length (take used rows.old) - length (without_row T.Row.key key (take used rows.old))) T.Row.zero ++ drop used rows.old) }
     ensures count { Rising T.Row.key (take used rows.old) → result ≡ length (without_row T.Row.key key (take used rows.old)) }

@@ -5,11 +5,32 @@ use rows::{LinkRow, LinkWidth, ParentRow, Row, RowKey, find, put, remove};
 #[derive(Clone, Copy)]
 struct Entry(u32, u32, u32);
 
-impl Entry {
-    fn key(self) -> RowKey {
+impl From<Entry> for RowKey {
+    fn from(entry: Entry) -> RowKey {
         RowKey {
-            list: self.0,
-            place: self.1,
+            list: entry.0,
+            place: entry.1,
+        }
+    }
+}
+
+impl From<Entry> for LinkRow {
+    fn from(entry: Entry) -> LinkRow {
+        LinkRow {
+            owner: entry.0,
+            position: entry.1,
+            width: LinkWidth::Two,
+            target: entry.2,
+        }
+    }
+}
+
+impl From<Entry> for ParentRow {
+    fn from(entry: Entry) -> ParentRow {
+        ParentRow {
+            child: entry.0,
+            parent: entry.1,
+            links: entry.2,
         }
     }
 }
@@ -220,84 +241,63 @@ const ASKED: [RowKey; 13] = [
     },
 ];
 
-trait Sample: Row + PartialEq {
-    fn made(entry: Entry) -> Self;
-}
-
-impl Sample for LinkRow {
-    fn made(entry: Entry) -> LinkRow {
-        LinkRow {
-            owner: entry.0,
-            position: entry.1,
-            width: LinkWidth::Two,
-            target: entry.2,
-        }
-    }
-}
-
-impl Sample for ParentRow {
-    fn made(entry: Entry) -> ParentRow {
-        ParentRow {
-            child: entry.0,
-            parent: entry.1,
-            links: entry.2,
-        }
-    }
-}
-
-fn finds<T: Sample>(rows: &[T], used: usize, after: &[Entry]) -> bool {
+// With a count beside the slice, as the functions that are tested take it.
+fn finds<T: Row + PartialEq + From<Entry>>(rows: &[T], used: usize, after: &[Entry]) -> bool {
     ASKED.iter().all(|key| {
         let found = find(rows, used, *key);
-        match after.iter().find(|entry| entry.key() == *key) {
-            Some(entry) => found == Some(T::made(*entry)),
+        match after.iter().find(|entry| RowKey::from(**entry) == *key) {
+            Some(entry) => found == Some(T::from(*entry)),
             None => found.is_none(),
         }
     })
 }
 
-fn stand<T: Sample>(rows: &[T], after: &[Entry]) -> bool {
+fn stand<T: Row + PartialEq + From<Entry>>(rows: &[T], after: &[Entry]) -> bool {
     let Some((used, spare)) = rows.split_at_checked(after.len()) else {
         return false;
     };
     let is_used = used
         .iter()
         .zip(after)
-        .all(|(row, entry)| *row == T::made(*entry));
+        .all(|(row, entry)| *row == T::from(*entry));
     is_used && spare.iter().all(|row| *row == T::default())
 }
 
-fn taken<T: Sample>(rows: &mut [T], used: usize, step: &Step) -> Option<usize> {
+fn taken<T: Row + From<Entry>>(rows: &mut [T], used: usize, step: &Step) -> Option<usize> {
     match step.act {
-        Act::Put => put(rows, used, T::made(step.row)),
-        Act::Remove => Some(remove(rows, used, step.row.key())),
+        Act::Put => put(rows, used, T::from(step.row)),
+        Act::Remove => Some(remove(rows, used, RowKey::from(step.row))),
     }
 }
 
 // The name of the first step that goes wrong. Where all rows are in use, `beyond` is told in place of their number.
-fn walk<T: Sample>(rows: &mut [T], beyond: usize) -> Option<&'static str> {
+fn walk<T: Row + PartialEq + From<Entry>>(
+    rows: &mut [T],
+    beyond: usize,
+) -> Result<(), &'static str> {
     let mut used = 0;
     for step in STEPS.iter() {
         let answer = taken(rows, used, step);
         if answer != step.answer || !stand(rows, step.after) {
-            return Some(step.name);
+            return Err(step.name);
         }
         used = step.after.len();
         if used == rows.len() {
             used = beyond;
         }
         if !finds(rows, used, step.after) {
-            return Some(step.name);
+            return Err(step.name);
         }
     }
-    None
+    Ok(())
 }
 
 #[test]
 fn rows_go_in_and_out(rt: HostRuntime) {
     for beyond in [4, 5, usize::MAX] {
         let mut links = [LinkRow::default(); 4];
-        assert_eq!(rt; walk(&mut links, beyond), None);
+        assert_eq!(rt; walk(&mut links, beyond), Ok(()));
         let mut parents = [ParentRow::default(); 4];
-        assert_eq!(rt; walk(&mut parents, beyond), None);
+        assert_eq!(rt; walk(&mut parents, beyond), Ok(()));
     }
 }

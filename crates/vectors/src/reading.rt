@@ -5,7 +5,7 @@ ghost use Rattle.coverage_list.specs.Format1.{array_meaning, array_span};
 ghost use Rattle.coverage_list.specs.Arrays;
 ghost use Rattle.std.proofs.Common.{rules};
 
-use crate::laid::is_laid;
+use crate::laid::{is_laid, is_laid_in};
 use coverage::codec::CoverageCodec;
 use coverage_list::ListCodec;
 use coverage_opentype::opentype::OpenTypeCodec;
@@ -402,11 +402,8 @@ fn copies<C: CoverageCodec>(
         return false;
     }
     out.fill(SPARE);
-    match codec.glyphs_into(bytes, &mut out[..room]) {
-        Ok(count) => count == glyphs.len() && count <= room && is_laid(out, glyphs, SPARE),
-        Err(CodecFault::NoSpace) => room < glyphs.len() && is_laid(out, &[], SPARE),
-        Err(_) => false,
-    }
+    let answer = codec.glyphs_into(bytes, &mut out[..room]);
+    is_laid_in(answer, out, glyphs, SPARE, room)
 }
 
 // Whether the n-th glyph is at n, and the other way about.
@@ -450,7 +447,7 @@ pub fn means<C: CoverageCodec>(
 
 // Cut off before its end a table means nothing; bytes behind its end do not matter.
 fn reads<C: CoverageCodec>(codec: &C, case: &Covering, out: &mut [u16]) -> bool {
-    // Over lengths, which are no elements.
+    // Not `all`, as below: of a closure with two calls that write `out` the check finds no proof.
     for n in 0..=case.bytes.len() {
         let front = &case.bytes[..n];
         let is_read = if n < case.end {
@@ -467,13 +464,7 @@ fn reads<C: CoverageCodec>(codec: &C, case: &Covering, out: &mut [u16]) -> bool 
 
 // Nor does any front of bytes that mean nothing mean something.
 fn reads_nothing<C: CoverageCodec>(codec: &C, bytes: &[u8], out: &mut [u16]) -> bool {
-    // Over lengths, which are no elements.
-    for n in 0..=bytes.len() {
-        if !means_nothing(codec, &bytes[..n], out) {
-            return false;
-        }
-    }
-    true
+    (0..=bytes.len()).all(|n| means_nothing(codec, &bytes[..n], out))
 }
 
 #[test]

@@ -1,5 +1,5 @@
 // Short glyph lists: what the codecs write for them, into too little room, just enough, and more.
-use crate::laid::is_laid;
+use crate::laid::{is_laid, is_laid_in};
 use coverage::codec::CoverageCodec;
 use coverage_list::ListCodec;
 use coverage_opentype::opentype::OpenTypeCodec;
@@ -208,11 +208,8 @@ fn writes<C: CoverageCodec>(
         return false;
     }
     out.fill(SPARE);
-    match codec.write(glyphs, &mut out[..room]) {
-        Ok(size) => size == bytes.len() && size <= room && is_laid(out, bytes, SPARE),
-        Err(CodecFault::NoSpace) => room < bytes.len() && is_laid(out, &[], SPARE),
-        Err(_) => false,
-    }
+    let answer = codec.write(glyphs, &mut out[..room]);
+    is_laid_in(answer, out, bytes, SPARE, room)
 }
 
 /// Whether these bytes are written for the glyphs. The slice has room for one byte more.
