@@ -1,5 +1,5 @@
 -- Each turn keeps what the rest will answer; at each return that is the answer.
-use Rattle.std.proofs.Common.{Err, ap, ◌∙◌, arith}
+use Rattle.std.proofs.Common.{Err, ap, ◌∙◌}
 use Rattle.std.proofs.lemmas.Result.{err_from_is_err_and}
 use Rattle.refusals.specs.declared.Refusal.TheVariants.{BadWord}
 use Rattle.words.proofs.Counting.{at_start, ok_or_none, again, unfit, ended, unended, tells}
@@ -7,9 +7,6 @@ use Rattle.words.proofs.scan.Goals as goal
 
 pub loop-index-init : goal.loop-index-init
 loop-index-init c = at_start c.args.words.now c.default-reading.result c.default-reading.ensures
-
-pub step-requires : goal.step-requires
-step-requires c = let f = c.loop-index.invariant in omega arith
 
 pub returns-in_err-reading : goal.returns-in_err-reading
 returns-in_err-reading c =

@@ -1,7 +1,5 @@
-use Rattle.std.proofs.Common.{◌≡◌, length, ap, sym, ◌∙◌, arith}
-use Rattle.std.proofs.lemmas.List.{length-map}
-use Rattle.coverage_opentype.specs.Format2.{range_of}
-use Rattle.coverage_opentype.proofs.Reading.{Kth, kth_record, placed_at, placed_on, placed_none}
+use Rattle.std.proofs.Common.{arith}
+use Rattle.coverage_opentype.proofs.Reading.{Kth, kth_record, placed_at, placed_on}
 use Rattle.coverage_opentype.proofs.ranges.RangeTable.glyph.Goals as goal
 use Rattle.coverage_opentype.proofs.ranges.RangeTable.glyph.Goals.{After-from-range}
 
@@ -24,8 +22,3 @@ pub loop-record-preserved : goal.loop-record-preserved
 loop-record-preserved c =
     let t = at_hand (goal.at.loop-record-preserved c).After-from-range in
     placed_on _ _ _ _ t (omega (arith, t.index, c.loop-record.invariant)) c.if-on-range.false
-
-pub returns : goal.returns
-returns c =
-    let l : length c.self.inside.records.now ≡ length c.args.self.now = sym (length-map c.self.inside.records.now range_of) ∙ ap length c.self.view_is in
-    placed_none _ c.loop-record.record-index _ (omega arith) c.loop-record.invariant
