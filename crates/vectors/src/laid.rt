@@ -2,13 +2,13 @@
 use refusals::CodecFault;
 
 /// Whether the slice begins with `front`, and holds `spare` everywhere behind it.
-pub fn is_laid<T: PartialEq + Copy>(out: &[T], front: &[T], spare: T) -> bool {
+pub(crate) fn is_laid<T: PartialEq + Copy>(out: &[T], front: &[T], spare: T) -> bool {
     out.starts_with(front) && out[front.len()..].iter().all(|found| *found == spare)
 }
 
 /// Whether a call that was to lay `front` into so much room answered so: with its length where it fits, and for want of
 /// space where it doesn't, and then laid nothing. Before the call the slice held `spare` everywhere.
-pub fn is_laid_in<T: PartialEq + Copy>(
+pub(crate) fn is_laid_in<T: PartialEq + Copy>(
     answer: Result<usize, CodecFault>,
     out: &[T],
     front: &[T],

@@ -380,7 +380,7 @@ impl CoverageCodec for ByGlyph {
 }
 
 /// Whether each call refuses the bytes, and none changes the slice.
-pub fn means_nothing<C: CoverageCodec>(codec: &C, bytes: &[u8], out: &mut [u16]) -> bool {
+pub(crate) fn means_nothing<C: CoverageCodec>(codec: &C, bytes: &[u8], out: &mut [u16]) -> bool {
     out.fill(SPARE);
     codec.count(bytes) == Err(CodecFault::NoMeaning)
         && codec.end(bytes) == Err(CodecFault::NoMeaning)
@@ -421,7 +421,7 @@ fn ends<C: CoverageCodec>(codec: &C, bytes: &[u8], count: usize, end: usize) -> 
 
 /// Whether the bytes mean these glyphs and not the absent one, by every call. The slice has room for one glyph more.
 /// Of long lists not every glyph is asked for, but the first and the last are.
-pub fn means<C: CoverageCodec>(
+pub(crate) fn means<C: CoverageCodec>(
     codec: &C,
     bytes: &[u8],
     glyphs: &[u16],

@@ -213,7 +213,7 @@ fn writes<C: CoverageCodec>(
 }
 
 /// Whether these bytes are written for the glyphs. The slice has room for one byte more.
-pub fn is_written<C: CoverageCodec>(
+pub(crate) fn is_written<C: CoverageCodec>(
     codec: &C,
     glyphs: &[u16],
     bytes: &[u8],
@@ -230,7 +230,7 @@ pub fn is_written<C: CoverageCodec>(
 }
 
 /// Whether the codec refuses the glyphs, in any room, and leaves the slice.
-pub fn admits_not<C: CoverageCodec>(codec: &C, glyphs: &[u16], out: &mut [u8]) -> bool {
+pub(crate) fn admits_not<C: CoverageCodec>(codec: &C, glyphs: &[u16], out: &mut [u8]) -> bool {
     out.fill(SPARE);
     codec.size(glyphs) == Err(CodecFault::NotAdmitted)
         && codec.write(glyphs, &mut []) == Err(CodecFault::NotAdmitted)
