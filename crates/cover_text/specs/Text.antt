@@ -3,7 +3,7 @@ use Rattle.std.specs.Prelude.{ℕ, ◌+◌, ◌/◌, ◌%◌, cond, List, [], �
 use Rattle.std.specs.List.{flat_map}
 use Rattle.refusals.specs.declared.CodecFault.{CodecFault}
 use Rattle.refusals.specs.declared.CodecFault.TheVariants.{NoMeaning}
-use Rattle.refusals.specs.Words.{fault_words_of}
+pub use Rattle.refusals.specs.Words.{fault_words_of}
 use Rattle.data_bytes.specs.BigEndian.{word16}
 use Rattle.coverage.specs.Meaning.{Meant}
 use Rattle.coverage_list.specs.Format1.{array_meaning, array_bytes}

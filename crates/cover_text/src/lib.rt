@@ -3,14 +3,14 @@
 // It is for a tool, so it allocates; the codecs that it calls work in lent memory.
 #![tactic(auto)]
 
-ghost use Rattle.std.specs.Prelude.{◌≡◌, ℕ, ◌⊎◌, List, length, IfOk, Some, Ok, string_bytes};
+ghost use Rattle.std.specs.Prelude.{◌≡◌, ℕ, ◌*◌, ◌<◌, ◌≤◌, ◌⊎◌, List, length, IfOk, Some, Ok, string_bytes};
 ghost use Rattle.data_bytes.specs.BigEndian.{word16};
 ghost use Rattle.coverage.specs.Meaning.{glyphs_meant, counted, written_as};
 ghost use Rattle.coverage_list.specs.Arrays.{length-array_bytes};
 ghost use Rattle.coverage_list.specs.Format1.{array_meaning, array_bytes};
 ghost use Rattle.coverage_opentype.specs.Choosing.{length-open_type_bytes};
 ghost use Rattle.coverage_opentype.specs.OpenType.{open_type_meaning, open_type_bytes};
-ghost use Rattle.cover_text.specs.Text.{runs_text, hex_text, reading, reading_text_of, lines_of, coverage_text_of};
+ghost use Rattle.cover_text.specs.Text.{fault_words_of, runs_text, hex_digit_of, hex_text, reading, reading_text_of, lines_of, coverage_text_of};
 
 use coverage::codec::CoverageCodec;
 use coverage_list::ListCodec;
@@ -19,7 +19,14 @@ use coverage_opentype::ranges::follows;
 use data_bytes::word_at;
 use refusals::CodecFault;
 use std::alloc::{AllocError, Global};
-use std::fmt;
+use std::{fmt, str};
+
+/// A codec's fault in words.
+pub fn fault_words(fault: CodecFault) -> &'static str
+    ensures { result.now ≡ fault_words_of fault }
+{
+    fault.words()
+}
 
 // The unbroken runs of a list, each behind a space: `12-15`, or `10` if it is one.
 // Not a `Display`: in a `fmt`, which is generic, a loop over `chunk_by` gets no proof.
@@ -37,6 +44,31 @@ fn runs(heap: Global, glyphs: &[u16]) -> Result<String, AllocError>
     Ok(text)
 }
 
+// A digit of base 16, in lower case.
+fn hex_digit(digit: u8) -> u8
+    requires { digit < 16 }
+    ensures value { result ≡ hex_digit_of digit }
+    ensures ascii { result < 128 }
+{
+    if digit < 10 {
+        b'0' + digit
+    } else {
+        b'a' - 10 + digit
+    }
+}
+
+// Bytes in hex, written into a buffer.
+fn hex_piece<'a>(bytes: &[u8], buffer: &'a mut [u8]) -> &'a str
+    requires { 2 * length bytes.now ≤ length buffer.old }
+    ensures { result.now ≡ hex_text bytes.now }
+{
+    for (i, &byte) in bytes.iter().enumerate() {
+        buffer[2 * i] = hex_digit(byte / 16);
+        buffer[2 * i + 1] = hex_digit(byte % 16);
+    }
+    str::from_utf8(&buffer[..2 * bytes.len()]).unwrap()
+}
+
 // Bytes in hex, two digits each. Only printed, so it needs no equality.
 #[derive(Clone, Copy)]
 struct Hex<'a>(&'a [u8]);
@@ -45,8 +77,10 @@ impl fmt::Display for Hex<'_> {
     ghost output = { λ h. Some (hex_text h.0.now) };
 
     fn fmt<W: fmt::Write>(&self, f: &mut fmt::Formatter<W>) -> fmt::Result {
-        for &byte in self.0 {
-            write!(f, "{byte:02x}")?;
+        // A call of the writer costs more than a byte's digits, so it gets many at a time.
+        let mut buffer = [0u8; 64];
+        for bytes in self.0.chunks(buffer.len() / 2) {
+            f.write_str(hex_piece(bytes, &mut buffer))?;
         }
         Ok(())
     }
@@ -65,7 +99,7 @@ impl fmt::Display for ListReading<'_> {
                 let end = ListCodec.end(self.0).unwrap();
                 write!(f, "{count} glyphs, {end} bytes")
             }
-            Err(fault) => write!(f, "{fault}"),
+            Err(fault) => f.write_str(fault_words(fault)),
         }
     }
 }
@@ -154,7 +188,7 @@ pub fn coverage_text(heap: Global, bytes: &[u8]) -> Result<String, AllocError>
             let glyphs = glyphs_of(heap, bytes, count)?;
             lines(heap, bytes, &glyphs, end)
         }
-        Err(fault) => format!(in heap; "no coverage: {fault}\n"),
+        Err(fault) => format!(in heap; "no coverage: {}\n", fault_words(fault)),
     }
 }
 

@@ -140,19 +140,25 @@ impl CodecFault {
     {
         self as u8
     }
-}
 
-// A fault in words.
-impl fmt::Display for CodecFault {
-    ghost output = { λ fault. Some (fault_words_of fault) };
-
-    fn fmt<W: fmt::Write>(&self, f: &mut fmt::Formatter<W>) -> fmt::Result {
-        f.write_str(match self {
+    /// The fault in words.
+    pub fn words(self) -> &'static str
+        ensures { result.now ≡ fault_words_of self }
+    {
+        match self {
             CodecFault::NoMeaning => "the bytes mean no glyph list",
             CodecFault::PastEnd => "there is no glyph at that index",
             CodecFault::NotAdmitted => "the codec does not admit the list",
             CodecFault::NoSpace => "the slice is too short",
-        })
+        }
+    }
+}
+
+impl fmt::Display for CodecFault {
+    ghost output = { λ fault. Some (fault_words_of fault) };
+
+    fn fmt<W: fmt::Write>(&self, f: &mut fmt::Formatter<W>) -> fmt::Result {
+        f.write_str(self.words())
     }
 }
 
