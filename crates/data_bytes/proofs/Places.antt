@@ -1,13 +1,60 @@
 -- Numbers at places of a list of bytes.
-use Rattle.std.proofs.Common.{◌≡◌, ℕ, ◌+◌, ◌^◌, ◌<◌, ◌≤◌, cond, leb, List, ◌++◌, length, take, drop, Some, None, sym, ap, ◌∙◌, ⊎_elim, arith}
+use Rattle.std.proofs.Common.{◌≡◌, ℕ, suc, ◌+◌, ◌*◌, ◌/◌, ◌%◌, ◌^◌, ◌<◌, ◌≤◌, true, cond, leb, List, [], ◌∷◌, ◌++◌, length, get_or, take, drop, set, Some, None, sym, ap, ◌∙◌, ⊎_elim, add-zero, add_assoc, add-one, arith}
+use Rattle.std.proofs.lemmas.Int.Digits.{number_more}
+use Rattle.std.proofs.lemmas.List.Edits.{sets-eq}
 use Rattle.std.proofs.lemmas.List.{append_assoc, length-take-le, length-drop, get_or-drop, drop-drop, drop-take}
 use Rattle.std.proofs.lemmas.Grind.{common_steps}
 use Rattle.std.proofs.lemmas.Slice.{take-put_mid_below, drop-put_mid}
 use borrow.Rule.Slice.PartMut.{put_mid}
 use Rattle.std.proofs.lemmas.Bool.{leb-true, le-leb, lt-leb, cases_lt, cond-true, cond-false}
-use Rattle.data_bytes.specs.BigEndian.{Bytes, big_endian, spelled, within, number_at, put_at, written_at}
+use Rattle.data_bytes.specs.BigEndian.{Bytes, word16, put16, big_endian, spelled, within, number_at, put_at, written_at}
 use Rattle.data_bytes.specs.Scalars.{read_at_of, ReadsNumber, ScalarReadsBack, Apart}
 use Rattle.data_bytes.proofs.Spellings.{length_spelled, number_spelled, number_under, bytes_take}
+
+-- one byte more
+pub number_at_more : (w : ℕ) (bs : List ℕ) (i : ℕ) → i + w < length bs → number_at (w + 1) bs i ≡ number_at w bs i * 256 + get_or bs (i + w) 0
+number_at_more w bs i h =
+    let n = length-drop i bs in
+    number_more 256 (drop i bs) w (omega arith) ∙ ap (λ b. number_at w bs i * 256 + b) (get_or-drop i bs w 0)
+
+pub word_number : (bs : List ℕ) (i : ℕ) → i + 1 < length bs → word16 bs i ≡ number_at 2 bs i
+word_number bs i h =
+    let first = number_at_more 0 bs i (omega arith) in
+    let second = number_at_more 1 bs i (omega arith) in
+    let here = ap (λ k. get_or bs k 0) (add-zero i) in
+    omega arith
+
+-- the number of four bytes is made of two words
+pub words_number : (bs : List ℕ) (i : ℕ) → i + 3 < length bs → word16 bs i * 65536 + word16 bs (i + 2) ≡ number_at 4 bs i
+words_number bs i h =
+    let front = word_number bs i (omega arith) in
+    let third = number_at_more 2 bs i (omega arith) in
+    let fourth = number_at_more 3 bs i (omega arith) in
+    let here = ap (λ k. get_or bs k 0) (add_assoc i 2 1) in
+    omega arith
+
+pub word_put : (bs : List ℕ) (i n : ℕ) → i + 1 < length bs → n < 65536 → put16 bs i n ≡ put_at 2 bs i n
+word_put bs i n h small =
+    let high : n / 256 ≡ n / 256 % 256 = omega arith in
+    ap (λ b. set (set bs i b) (i + 1) (n % 256)) high ∙ rw add-one (sets-eq (spelled 2 n) bs i (omega arith))
+
+four_set : (bs : List ℕ) (i a b c d : ℕ) → i + 3 < length bs
+    → set (set (set (set bs i a) (i + 1) b) (i + 2) c) (i + 2 + 1) d ≡ take i bs ++ (a ∷ b ∷ c ∷ d ∷ []) ++ drop (i + 4) bs
+four_set bs i a b c d h =
+    let one : i + 1 ≡ suc i = omega arith in
+    let two : i + 2 ≡ suc (suc i) = omega arith in
+    let three : i + 2 + 1 ≡ suc (suc (suc i)) = omega arith in
+    rw (three, two, one) (sets-eq (a ∷ b ∷ c ∷ d ∷ []) bs i (omega arith))
+
+-- a number of four bytes is put as two words
+pub words_put : (bs : List ℕ) (i n : ℕ) → i + 3 < length bs → n < 4294967296 → put16 (put16 bs i (n / 65536)) (i + 2) (n % 65536) ≡ put_at 4 bs i n
+words_put bs i n h small =
+    let a : n / 65536 / 256 ≡ n / 256 / 256 / 256 % 256 = omega arith in
+    let b : n / 65536 % 256 ≡ n / 256 / 256 % 256 = omega arith in
+    let c : n % 65536 / 256 ≡ n / 256 % 256 = omega arith in
+    let d : n % 65536 % 256 ≡ n % 256 = omega arith in
+    four_set bs i (n / 65536 / 256) (n / 65536 % 256) (n % 65536 / 256) (n % 65536 % 256) h
+    ∙ rw (a, b, c, d)
 
 -- what is read and written where all of the bytes are there, and where one is not
 
@@ -23,10 +70,43 @@ written_within w bs i n h = cond-true (within w bs i) (put_at w bs i n) bs (le-l
 pub written_outside : (w : ℕ) (bs : List ℕ) (i n : ℕ) → length bs < i + w → written_at w bs i n ≡ bs
 written_outside w bs i n h = cond-false (within w bs i) (put_at w bs i n) bs (lt-leb (i + w) (length bs) h)
 
+-- numbers of 16 and 32 bits, read and written as words
+
+pub word_read : (bs : List ℕ) (i n : ℕ) → within 2 bs i ≡ true → n ≡ word16 bs i → Some n ≡ read_at_of (λ k. k) 2 bs i
+word_read bs i n there e =
+    let h = leb-true (i + 2) (length bs) there in
+    ap Some (e ∙ word_number bs i (omega arith)) ∙ sym (read_within (λ k. k) 2 bs i h)
+
+pub words_read : (bs : List ℕ) (i high low : ℕ) → within 4 bs i ≡ true → high ≡ word16 bs i → low ≡ word16 bs (i + 2)
+    → Some (high * 65536 + low) ≡ read_at_of (λ k. k) 4 bs i
+words_read bs i high low there e f =
+    let h = leb-true (i + 4) (length bs) there in
+    let n = words_number bs i (omega arith) in
+    let is : high * 65536 + low ≡ number_at 4 bs i = omega arith in
+    ap Some is ∙ sym (read_within (λ k. k) 4 bs i h)
+
+pub word_written : (bs new : List ℕ) (i n : ℕ) → within 2 bs i ≡ true → n < 65536 → new ≡ put16 bs i n → new ≡ written_at 2 bs i n
+word_written bs new i n there small e =
+    let h = leb-true (i + 2) (length bs) there in
+    e ∙ (word_put bs i n (omega arith) small ∙ sym (written_within 2 bs i n h))
+
+pub words_written : (bs mid new : List ℕ) (i n : ℕ) → within 4 bs i ≡ true → n < 4294967296 → mid ≡ put16 bs i (n / 65536) → new ≡ put16 mid (i + 2) (n % 65536)
+    → new ≡ written_at 4 bs i n
+words_written bs mid new i n there small e f =
+    let h = leb-true (i + 4) (length bs) there in
+    f ∙ (ap (λ ks. put16 ks (i + 2) (n % 65536)) e ∙ (words_put bs i n (omega arith) small ∙ sym (written_within 4 bs i n h)))
+
 -- what a write leaves
 
 pub length_put_at : (w : ℕ) (bs : List ℕ) (i n : ℕ) → i + w ≤ length bs → length (put_at w bs i n) ≡ length bs
 length_put_at w bs i n h = let s = length_spelled w n in grind (arith, common_steps)
+
+pub length-written_at : (w : ℕ) (bs : List ℕ) (i n : ℕ) → length (written_at w bs i n) ≡ length bs
+length-written_at w bs i n =
+    ⊎_elim
+    (λ outside. ap length (written_outside w bs i n outside))
+    (λ inside. ap length (written_within w bs i n inside) ∙ length_put_at w bs i n inside)
+    (cases_lt (length bs) (i + w))
 
 over_part : (w : ℕ) (bs : List ℕ) (i n : ℕ) → put_at w bs i n ≡ put_mid i w bs (spelled w n)
 over_part w bs i n = append_assoc (take i bs) (spelled w n) (drop (i + w) bs) ∙ ap (λ ks. take i bs ++ (spelled w n ++ ks)) (sym (drop-drop w i bs))

@@ -4,7 +4,6 @@
 ghost use Rattle.std.specs.Prelude.{◌≡◌, ◌+◌, ◌-◌, ◌<◌, ◌≤◌, ◌∷◌, ◌++◌, length, take, drop, replicate, min, option_map, IfOk, IsNone};
 ghost use Rattle.std.specs.List.{HoldsAt, insert, remove};
 ghost use Rattle.std.specs.List.Sorted.{IsSearchInRange};
-ghost use Rattle.std.proofs.Common.{rules};
 ghost use Rattle.rows.specs.declared.RowKey.{RowKey};
 ghost use Rattle.rows.specs.Keys.{precedes};
 ghost use Rattle.rows.specs.Kinds.{wide, link_key, zero_link, parent_key, zero_parent};
@@ -34,8 +33,8 @@ impl RowKey {
     }
 }
 
-/// A row that tells its key. Rows in use stand in rising order of their keys, and a spare row that was freed is the default.
-pub trait Row: Copy + Default {
+/// A row that tells its key. Rows in use stand in rising order of their keys.
+pub trait Row: Copy {
     ghost key: { Self → RowKey };
 
     ghost zero: { Self };
@@ -43,7 +42,9 @@ pub trait Row: Copy + Default {
     fn key(&self) -> RowKey
         ensures { result ≡ key self.now };
 
-    ghost default_is: { (x : Self) → Self.is_default x → x ≡ zero };
+    /// What a spare row holds once it is freed.
+    fn zero() -> Self
+        ensures { result ≡ zero };
 }
 
 /// How many bytes a link's offset takes in its owner's table. A virtual link takes none.
@@ -83,13 +84,15 @@ impl Row for LinkRow {
 
     ghost zero = { zero_link };
 
-    ghost default_is = { Prim.search rules };
-
     fn key(&self) -> RowKey {
         RowKey {
             list: self.owner,
             place: self.position,
         }
+    }
+
+    fn zero() -> LinkRow {
+        LinkRow::default()
     }
 }
 
@@ -107,13 +110,15 @@ impl Row for ParentRow {
 
     ghost zero = { zero_parent };
 
-    ghost default_is = { Prim.search rules };
-
     fn key(&self) -> RowKey {
         RowKey {
             list: self.child,
             place: self.parent,
         }
+    }
+
+    fn zero() -> ParentRow {
+        ParentRow::default()
     }
 }
 
@@ -220,7 +225,7 @@ impl<'a, T: Row> KeyedRows<'a, T> {
     {
         self.rows.copy_within(at + 1..self.used, at);
         self.used -= 1;
-        self.rows[self.used] = T::default();
+        self.rows[self.used] = T::zero();
     }
 }
 

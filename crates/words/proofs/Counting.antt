@@ -45,7 +45,7 @@ same_counts : (t l b r t' l' b' r' : ℕ) → t ≡ t' → l ≡ l' → b ≡ b'
 same_counts t l b r t' l' b' r' e f g h = cc
 
 -- AT THE START
-abbrev fresh : Reading
+abbrev pub fresh : Reading
 fresh = record { place = Start; counts = record { tables = 0; links = 0; bytes = 0; roots = 0 } }
 
 begun : (ws : List ℕ) (x : Result Rest ℕ) → Told ws Start 0 x → totalled fresh.counts 0 x ≡ scanned_as (stream_of x)
@@ -58,7 +58,7 @@ begun ws (Err i) h = ap (λ k. Err (BadWord k)) (omega arith)
 is_fresh : (p : Place) (t l b r : ℕ) → p ≡ Start → t ≡ 0 → l ≡ 0 → b ≡ 0 → r ≡ 0 → record { place = p; counts = count4 t l b r } ≡ fresh
 is_fresh p t l b r e f g h i = cc
 
-at_fresh : (ws : List ℕ) → Far ws 0 fresh
+pub at_fresh : (ws : List ℕ) → Far ws 0 fresh
 at_fresh ws = record { so = begun ws (read ws Start 0) (told ws Start 0); tables = omega arith; links = omega arith; bytes = omega arith; roots = omega arith }
 
 pub at_start : (ws : List ℕ) (d : Reading) → (d.place ≡ Start) × ((d.counts.tables ≡ 0) × ((d.counts.links ≡ 0) × ((d.counts.bytes ≡ 0) × (d.counts.roots ≡ 0)))) → Far ws 0 d
