@@ -241,6 +241,20 @@ const ASKED: [RowKey; 13] = [
     },
 ];
 
+// The zero rows, written out.
+const ZERO_LINK: LinkRow = LinkRow {
+    owner: 0,
+    position: 0,
+    width: LinkWidth::Zero,
+    target: 0,
+};
+
+const ZERO_PARENT: ParentRow = ParentRow {
+    child: 0,
+    parent: 0,
+    links: 0,
+};
+
 // With a count beside the slice, as the functions that are tested take it.
 fn finds<T: Row + PartialEq + From<Entry>>(rows: &[T], used: usize, after: &[Entry]) -> bool {
     ASKED.iter().all(|key| {
@@ -252,7 +266,7 @@ fn finds<T: Row + PartialEq + From<Entry>>(rows: &[T], used: usize, after: &[Ent
     })
 }
 
-fn stand<T: Row + PartialEq + From<Entry>>(rows: &[T], after: &[Entry]) -> bool {
+fn stand<T: Row + PartialEq + From<Entry>>(rows: &[T], after: &[Entry], zero: T) -> bool {
     let Some((used, spare)) = rows.split_at_checked(after.len()) else {
         return false;
     };
@@ -260,7 +274,7 @@ fn stand<T: Row + PartialEq + From<Entry>>(rows: &[T], after: &[Entry]) -> bool 
         .iter()
         .zip(after)
         .all(|(row, entry)| *row == T::from(*entry));
-    is_used && spare.iter().all(|row| *row == T::default())
+    is_used && spare.iter().all(|row| *row == zero)
 }
 
 fn taken<T: Row + From<Entry>>(rows: &mut [T], used: usize, step: &Step) -> Option<usize> {
@@ -273,12 +287,13 @@ fn taken<T: Row + From<Entry>>(rows: &mut [T], used: usize, step: &Step) -> Opti
 // The name of the first step that goes wrong. Where all rows are in use, `beyond` is told in place of their number.
 fn walk<T: Row + PartialEq + From<Entry>>(
     rows: &mut [T],
+    zero: T,
     beyond: usize,
 ) -> Result<(), &'static str> {
     let mut used = 0;
     for step in STEPS.iter() {
         let answer = taken(rows, used, step);
-        if answer != step.answer || !stand(rows, step.after) {
+        if answer != step.answer || !stand(rows, step.after, zero) {
             return Err(step.name);
         }
         used = step.after.len();
@@ -295,9 +310,9 @@ fn walk<T: Row + PartialEq + From<Entry>>(
 #[test]
 fn rows_go_in_and_out(rt: HostRuntime) {
     for beyond in [4, 5, usize::MAX] {
-        let mut links = [LinkRow::default(); 4];
-        assert_eq!(rt; walk(&mut links, beyond), Ok(()));
-        let mut parents = [ParentRow::default(); 4];
-        assert_eq!(rt; walk(&mut parents, beyond), Ok(()));
+        let mut links = [ZERO_LINK; 4];
+        assert_eq!(rt; walk(&mut links, ZERO_LINK, beyond), Ok(()));
+        let mut parents = [ZERO_PARENT; 4];
+        assert_eq!(rt; walk(&mut parents, ZERO_PARENT, beyond), Ok(()));
     }
 }

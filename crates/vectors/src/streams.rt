@@ -511,7 +511,11 @@ const REFUSED: [Rejected; 50] = [
 ];
 
 fn refuses(words: &[u32], index: usize) -> bool {
-    scan(words) == Err(Refusal::BadWord { index })
+    scan(words).is_err_and(|refusal| {
+        refusal == Refusal::BadWord { index }
+            && refusal.number() == 1
+            && refusal.value() == index as u64
+    })
 }
 
 // A good stream that stops too soon is refused at its end, wherever it stops.
