@@ -1,18 +1,17 @@
 -- What the answers of a codec tell of the meaning behind them.
 use Rattle.std.proofs.Common.{◌≡◌, ℕ, ◌<◌, ◌≤◌, true, List, ◌++◌, length, get_or, drop, Some, None, Ok, Err, Option, Result, sym, refl, ap, ◌∙◌, arith}
-use Rattle.std.proofs.lemmas.List.{ext_get_or, map-id}
+use Rattle.std.proofs.lemmas.List.{ext_get_or}
 use Rattle.std.specs.Ordering.{nat_cmp}
-use Rattle.std.specs.Cmp.{nat_cmp_is}
 use Rattle.std.specs.Result.{result_map_both}
 use Rattle.std.specs.declared.cmp.Ordering.{Ordering}
-use Rattle.std.specs.declared.cmp.Ordering.TheVariants.{Equal}
-use Rattle.std.proofs.lemmas.Bool.{lt-ltb, le-leb, cond-true}
+use Rattle.std.proofs.lemmas.Bool.{lt-ltb, le-ltb, le-leb, lt-leb, cond-true, cond-false}
 use Rattle.refusals.specs.declared.CodecFault.{CodecFault}
-use Rattle.refusals.specs.declared.CodecFault.TheVariants.{NoMeaning}
+use Rattle.refusals.specs.declared.CodecFault.TheVariants.{NoMeaning, PastEnd, NoSpace}
 use Rattle.coverage.specs.Glyphs.{GlyphList, rises, index_in}
 use Rattle.coverage.specs.Meaning.{Meant, glyphs_meant, counted, glyph_at, indexed, copied}
-use Rattle.coverage.specs.Halving.{Ascends, IsHalvingResult}
-use Rattle.coverage.proofs.Lists.{listed, index_at, index_none, ranked, cmp_equal}
+use Rattle.coverage.specs.Halving.{IsHalvingResult}
+use Rattle.coverage.proofs.Lists.{listed}
+use Rattle.coverage.proofs.Halves.{index_halved}
 
 -- bytes that mean something
 pub record Means (m : Option Meant) (n : ℕ) : Type 0 where
@@ -37,6 +36,14 @@ glyph_within m n k s lt =
 pub glyph_is : (m : Option Meant) (n k g : ℕ) → Means m n → k < n → Ok g ≡ glyph_at m k → g ≡ get_or (glyphs_meant m) k 0
 glyph_is m n k g s lt h = let w = glyph_within m n k s lt in cc
 
+pub glyph_no_fault : (m : Option Meant) (n k : ℕ) (e : CodecFault) → Means m n → k < n → Err e ≡ glyph_at m k → ⊥
+glyph_no_fault m n k e s lt h = let w = glyph_within m n k s lt in let z : ◌≡◌ {A = ℕ} 0 1 = cc in omega arith
+
+pub glyph_past : (m : Option Meant) (n k : ℕ) → Means m n → n ≤ k → glyph_at m k ≡ Err PastEnd
+glyph_past m n k s le =
+    let c = s.count in
+    ap (λ t. glyph_at t k) s.is ∙ cond-false _ _ _ (le-ltb k (length (glyphs_meant m)) (omega arith))
+
 pub indexed_by : (m : Option Meant) (n g : ℕ) (i : Option ℕ) → Means m n → index_in g (glyphs_meant m) ≡ i → Ok i ≡ indexed m g
 indexed_by m n g i s e = ap Ok (sym e) ∙ sym (ap (λ t. indexed t g) s.is)
 
@@ -57,25 +64,8 @@ module _ (m : Option Meant) (n g : ℕ) (lists : (gs : List ℕ) (e : ℕ) → m
   compared_is : (k : ℕ) → k < n → compared m g k ≡ Ok (nat_cmp (get_or gs k 0) g)
   compared_is k lt = ap (result_map_both (λ here. nat_cmp here g) (λ fault. fault)) (glyph_within m n k means lt)
 
-  ascends : Ascends (compared m g) n
-  ascends i j a b le lt is is' =
-      let c = means.count in
-      let r = ranked (λ x. x) gs g (ap rises (map-id gs) ∙ up) i j 0 le (omega arith) in
-      let w = compared_is i (omega arith) in
-      let w' = compared_is j lt in
-      let ea : nat_cmp (get_or gs i 0) g ≡ a = cc in
-      let eb : nat_cmp (get_or gs j 0) g ≡ b = cc in
-      rw (← ea, ← eb) r
-
   pub indexed_halved : (r : Result (Option ℕ) CodecFault) → IsHalvingResult (compared m g) n r → r ≡ indexed m g
-  indexed_halved (Ok (Some k)) at =
-      let c = means.count in
-      let w = compared_is k at.0 in
-      let e : nat_cmp (get_or gs k 0) g ≡ Equal = cc in
-      indexed_by m n g (Some k) means (index_at g gs k up (omega arith) (cmp_equal _ _ e))
-  indexed_halved (Ok None) at =
-      let c = means.count in
-      indexed_by m n g None means (index_none g gs (λ k lt e. at ascends k (omega arith) (compared_is k (omega arith) ∙ ap (λ t. Ok (nat_cmp t g)) e ∙ ap Ok (sym (nat_cmp_is g g Equal refl)))))
+  indexed_halved (Ok i) at = indexed_by m n g i means (index_halved (compared m g) gs g n up means.count compared_is i at)
   indexed_halved (Err e) at = let w = compared_is at.0 at.1 in let w' = at.2 in cc
 
 -- copying: each place holds what is answered of it
@@ -87,3 +77,18 @@ copied_each m n xs old h long room at =
     let same : xs ≡ gs = ext_get_or 0 xs gs (omega arith) (λ k lt. glyph_is m n k (get_or xs k 0) s (omega arith) (at k (omega arith))) in
     let out : copied m old ≡ (Ok (length gs), gs ++ drop (length gs) old) = ap (λ z. copied z old) s.is ∙ cond-true _ _ _ (le-leb (length gs) (length old) (omega arith)) in
     cc
+
+pub copied_no_space : (m : Option Meant) (n : ℕ) (old : List ℕ) → Means m n → length old < n → (Err NoSpace, old) ≡ copied m old
+copied_no_space m n old s lt =
+    let c = s.count in
+    sym (ap (λ z. copied z old) s.is ∙ cond-false _ _ _ (lt-leb (length (glyphs_meant m)) (length old) (omega arith)))
+
+pub copied_fault : (m : Option Meant) (e : CodecFault) (old : List ℕ) → Err e ≡ counted m → (Err e, old) ≡ copied m old
+copied_fault m e old h =
+    let f = counted_fault m e h in
+    ap (λ z. (Err z, old)) f.0 ∙ sym (ap (λ z. copied z old) f.1)
+
+pub indexed_fault : (m : Option Meant) (e : CodecFault) (g : ℕ) → Err e ≡ counted m → Err e ≡ indexed m g
+indexed_fault m e g h =
+    let f = counted_fault m e h in
+    ap Err f.0 ∙ sym (ap (λ z. indexed z g) f.1)

@@ -69,7 +69,7 @@ above_front : (x : ℕ) (ys zs : List ℕ) → above x (ys ++ zs) ≡ true → a
 above_front x [] zs h = refl
 above_front x (y ∷ ys) zs h = let p = and_parts _ _ h in and_from _ _ p.0 (above_front y ys zs p.1)
 
-rises_front : (ys zs : List ℕ) → rises (ys ++ zs) ≡ true → rises ys ≡ true
+pub rises_front : (ys zs : List ℕ) → rises (ys ++ zs) ≡ true → rises ys ≡ true
 rises_front [] zs h = refl
 rises_front (y ∷ ys) zs h = above_front y ys zs h
 

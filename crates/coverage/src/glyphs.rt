@@ -2,6 +2,9 @@
 ghost use Rattle.std.specs.Prelude.{◌≡◌, true};
 ghost use Rattle.coverage.specs.Glyphs.{rises, is_glyph_list_of, index_in};
 
+use crate::halving::halve;
+use std::convert::Infallible;
+
 /// Whether a coverage may cover these glyphs: 1 to 65,535 of them, in rising order.
 pub fn is_glyph_list(glyphs: &[u16]) -> bool
     ensures { result ≡ is_glyph_list_of glyphs.now }
@@ -13,5 +16,7 @@ pub fn is_glyph_list(glyphs: &[u16]) -> bool
 pub fn glyph_index(glyphs: &[u16], glyph: u16) -> Option<usize>
     ensures { rises glyphs.now ≡ true → result ≡ index_in glyph glyphs.now }
 {
-    glyphs.binary_search(&glyph).ok()
+    // Not std's `binary_search`, which goes on behind a hit.
+    let Ok(place) = halve(glyphs.len(), |n| Ok::<_, Infallible>(glyphs[n].cmp(&glyph)));
+    place
 }

@@ -1,6 +1,15 @@
 -- The pairs of bytes that a table has behind its count, as the glyphs that they spell.
-use Rattle.std.proofs.Common.{◌≡◌, ℕ, zero, suc, ◌+◌, ◌-◌, ◌*◌, ◌/◌, ◌<◌, ◌≤◌, true, false, ◌≢◌, List, [], ◌∷◌, ◌++◌, length, get_or, take, drop, set, Some, None, sym, refl, ap, ◌∙◌, arith}
-use Rattle.std.proofs.lemmas.List.{get_or-map, length-map}
+use Rattle.std.proofs.Common.{◌≡◌, ℕ, zero, suc, ◌+◌, ◌-◌, ◌*◌, ◌/◌, ◌<◌, ◌≤◌, true, false, ◌≢◌, List, [], ◌∷◌, ◌++◌, length, get_or, take, drop, set, Some, None, Bool, Option, ltb, inl, inr, subst, sym, refl, ap, ◌∙◌, arith}
+use Rattle.std.proofs.lemmas.List.{get_or-map, length-map, map-id, take-append-drop}
+use Rattle.std.proofs.lemmas.Bool.{cases_Bool}
+use Rattle.std.proofs.lemmas.Iterator.{YieldsList}
+use Rattle.std.proofs.lemmas.Iterator.Consumers.{YieldsList-so_far, YieldsList-end}
+use Rattle.std.specs.Bool.{OnTrue, IsTrue}
+use Rattle.std.specs.Iterator.{DrainsIf}
+use Rattle.std.specs.Iterator.Runs.{SomeRun, YieldsRun}
+use Rattle.std.specs.Iterator.Order.{IsSortedAnswer, ActsAsAtTwo}
+use denote.Ref.{Bor}
+use denote.Param.Members.{Mut}
 use Rattle.std.proofs.lemmas.List.Edits.{paste_more}
 use Rattle.std.proofs.Math.Nat.{zero-add}
 use Rattle.std.specs.Simd.{first_chunks}
@@ -9,7 +18,7 @@ use Rattle.data_bytes.specs.BigEndian.{word16}
 use Rattle.data_bytes.specs.Values.{values, values_at}
 use Rattle.data_bytes.proofs.ValueLists.{get_d_values_at}
 use Rattle.coverage.specs.Glyphs.{rises, is_glyph_list_of}
-use Rattle.coverage.proofs.Lists.{listed, list_of_rise}
+use Rattle.coverage.proofs.Lists.{listed, list_of_rise, rises_by, rises_front}
 use Rattle.coverage_list.specs.Format1.{array_glyphs, array_end, array_meaning, pair_glyphs}
 use Rattle.coverage_list.specs.Arrays.{array_meaning_lem, no_array}
 
@@ -65,6 +74,29 @@ module _ (bs : List ℕ) (pairs : List (List ℕ)) (c : Counted bs pairs) where
 
   pub falling_pairs : false ≡ rises (pair_glyphs pairs) → array_meaning bs ≡ None
   falling_pairs down = no_array bs (λ a. let up = (listed _ a.list).rise in let e = ap rises c.glyphs in cc)
+
+-- `is_sorted_by` of an iterator, which may leave the last items
+front_rises : (xs : List ℕ) (r : Bool) → IsSortedAnswer ltb xs r → r ≡ rises xs
+front_rises xs true h = rises_by (λ x. x) xs true (λ k d lt. sym (h.0 k d lt)) ∙ ap rises (map-id xs)
+front_rises xs false h = rises_by (λ x. x) xs false (h.0.0, h.0.1, λ d. sym (h.0.2 d)) ∙ ap rises (map-id xs)
+
+module _ {S F : Type 0} {steps : S → Option ℕ → S → Type 0} {all : List ℕ} (g : Mut F (Bor ℕ × (Bor ℕ × Unit {0})) Bool) (f : F) where
+  pub rises_along : (s : S) (r : Bool) → YieldsList steps (λ x. x) s all
+      → SomeRun steps s (λ p. OnTrue r (IsTrue p.whole) × ((h : ℕ → ℕ → Bool) → ActsAsAtTwo g f h → IsSortedAnswer h p.items r))
+      → ActsAsAtTwo g f ltb → r ≡ rises all
+  unfolding YieldsRun
+  rises_along s true e (p, from, (whole, up)) acts =
+      let ran = subst (λ z. DrainsIf steps (p.whole ≡ true) z p.items) from p.gave.0 in
+      let end = ran.2 whole in
+      front_rises p.items true (up ltb acts) ∙ ap rises (sym (map-id p.items) ∙ (YieldsList-end e p.items ran.0 ran.1 None end.0 refl end.1).0)
+  rises_along s false e (p, from, (_, down)) acts =
+      let ran = subst (λ z. DrainsIf steps (p.whole ≡ true) z p.items) from p.gave.0 in
+      let n = length p.items in
+      let front : p.items ≡ take n all = sym (map-id p.items) ∙ YieldsList-so_far e p.items ran.0 ran.1 in
+      elim (cases_Bool (rises all)) [
+        | inl up ↦ let here = rises_front (take n all) (drop n all) (ap rises (take-append-drop n all) ∙ up) in absurd (cc (front_rises p.items false (down ltb acts)))
+        | inr f ↦ sym f
+      ]
 
 -- one glyph more is copied; what is copied so far is what std calls a paste at 0
 pub copied_more : (pairs : List (List ℕ)) (old now : List ℕ) (i glyph : ℕ) → i < length pairs → length pairs ≤ length old → now ≡ take i (pair_glyphs pairs) ++ drop i old

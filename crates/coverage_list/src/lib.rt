@@ -36,7 +36,8 @@ fn array_pairs(bytes: &[u8]) -> Result<&[[u8; 2]], CodecFault>
     let end = 4 + 2 * word_at(bytes, 2) as usize;
     let glyphs = bytes.get(4..end).ok_or(CodecFault::NoMeaning)?;
     let (pairs, _) = glyphs.as_chunks::<2>();
-    if pairs.is_empty() || !pairs.is_sorted_by(|a, b| pair_glyph(a) < pair_glyph(b)) {
+    // By `map`, so that no glyph is decoded twice.
+    if pairs.is_empty() || !pairs.iter().map(pair_glyph).is_sorted_by(|a, b| a < b) {
         return Err(CodecFault::NoMeaning);
     }
     Ok(pairs)

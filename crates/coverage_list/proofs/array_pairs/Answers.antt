@@ -1,11 +1,11 @@
-use Rattle.std.proofs.Common.{refl, sym, ◌∙◌, ltb, arith, rules}
+use Rattle.std.proofs.Common.{refl, sym, ◌∙◌, arith, rules}
 use Rattle.std.proofs.lemmas.Option.{MatchOption-at_some}
-use Rattle.std.proofs.lemmas.List.Sorted.{answers_always}
+use Rattle.std.proofs.lemmas.Iterator.{YieldsList-from_slice, YieldsList-from_map}
+use Rattle.std.proofs.lemmas.Iterator.Consumers.{YieldsList-at}
 use Rattle.std.proofs.lemmas.Bool.{eqb-true, eqb-false}
 use Rattle.data_bytes.specs.BigEndian.{word16}
-use Rattle.coverage.proofs.Lists.{rises_by}
 use Rattle.coverage_list.specs.Arrays.{no_array}
-use Rattle.coverage_list.proofs.Pairs.{Counted, counted_pairs, pairs_mean, no_pairs, falling_pairs}
+use Rattle.coverage_list.proofs.Pairs.{Counted, counted_pairs, pairs_mean, no_pairs, falling_pairs, rises_along}
 use Rattle.coverage_list.proofs.array_pairs.Goals as goal
 use Rattle.coverage_list.proofs.array_pairs.Goals.{After-as_chunks}
 use Rattle.coverage_list.proofs.array_pairs.Goals.{then-bytes-lt4-via-then-bytes-lt4, then-bytes-lt4-via-else-bytes-lt4+then-word_at-ne1}
@@ -39,7 +39,7 @@ returns-then-is_empty c =
       elim c.then-is_empty.branch [
         | then-is_empty-via-then-is_empty w ↦ no_pairs _ _ p (eqb-true _ _ (sym w.if-is_empty.ensures))
         | then-is_empty-via-else-is_empty+then-not-is_sorted_by w ↦
-            falling_pairs _ _ p (sym w.if-not-is_sorted_by.true ∙ rises_by (λ pair. word16 pair 0) _ _ (w.is_sorted_by.ensures.cases (λ a b. ltb (word16 a 0) (word16 b 0)) (answers_always _ _ _ (λ f a r g called. search rules))))
+            falling_pairs _ _ p (sym w.if-not-is_sorted_by.true ∙ rises_along _ _ _ _ (YieldsList-from_map _ (λ pair. word16 pair 0) (YieldsList-at w.map.ensures.source (YieldsList-from_slice _ w.iter.ensures.rest)) w.map.ensures.closure (λ x r q k. search rules)) w.is_sorted_by.ensures.runs (λ x y r f k. search rules))
       ],
     )
 
@@ -47,4 +47,4 @@ pub returns : goal.returns
 returns c =
     let p = counted (goal.at.returns c).After-as_chunks in
     pairs_mean _ _ p (omega arith) (omega arith) (λ i. omega (arith, c.type_inv.bytes i)) (eqb-false _ _ (sym c.if-is_empty.ensures))
-    (sym c.if-not-is_sorted_by.false ∙ rises_by (λ pair. word16 pair 0) _ _ (c.is_sorted_by.ensures.cases (λ a b. ltb (word16 a 0) (word16 b 0)) (answers_always _ _ _ (λ f a r g called. search rules))))
+    (sym c.if-not-is_sorted_by.false ∙ rises_along _ _ _ _ (YieldsList-from_map _ (λ pair. word16 pair 0) (YieldsList-at c.map.ensures.source (YieldsList-from_slice _ c.iter.ensures.rest)) c.map.ensures.closure (λ x r q k. search rules)) c.is_sorted_by.ensures.runs (λ x y r f k. search rules))
