@@ -1,3 +1,4 @@
 pub mod Reading
 pub mod Runs
 pub mod Writing
+pub mod Breaks

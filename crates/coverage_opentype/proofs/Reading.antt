@@ -201,18 +201,18 @@ module _ (xs : List (List ℕ)) (k low n : ℕ) (d : List ℕ) (r : GlyphRange) 
       let l : length (map range_of xs) ≡ length xs = length-map xs range_of in
       drop_more rs k (range_of d) (omega arith) ∙ ap (λ t. t ∷ drop (k + 1) rs) (get_or-map range_of xs k d (range_of d) lt ∙ sym is)
 
-  pub walked_more : low ≤ r.start → r.start ≤ r.end → r.index ≡ n → r.end < 65536 → Walked rs (k + 1) (r.end + 1) (n + (r.end + 1 - r.start))
-  walked_more a b e s =
+  pub walked_more : low ≤ r.start → r.start ≤ r.end → r.index ≡ n → r.end < 65536 → (low' n' : ℕ) → low' ≡ r.end + 1 → n' ≡ n + (r.end + 1 - r.start) → Walked rs (k + 1) low' n'
+  walked_more a b e s low' n' f h =
       let c = length-covers r in
-      let q : n + length (covers r) ≡ n + (r.end + 1 - r.start) = omega arith in
-      let q' : suc r.end ≡ r.end + 1 = omega arith in
+      let q : n + length (covers r) ≡ n' = omega arith in
+      let q' : suc r.end ≡ low' = omega arith in
       let l = length-append (covers r) (covered (drop (k + 1) rs)) in
       let ln = ap (λ t. length (covered t)) rest_is in
       let su = w.sum in
       let fe = w.few in
       record {
         keeps = w.keeps ∙ ap (order_from low n) rest_is ∙ order_more low n r (drop (k + 1) rs) a b e
-            ∙ ap (λ t. order_from t (n + length (covers r)) (drop (k + 1) rs)) q' ∙ ap (λ t. order_from (r.end + 1) t (drop (k + 1) rs)) q;
+            ∙ ap (λ t. order_from t (n + length (covers r)) (drop (k + 1) rs)) q' ∙ ap (λ t. order_from low' t (drop (k + 1) rs)) q;
         narrow = w.narrow ∙ ap (λ t. small (covered t)) rest_is ∙ small_range r (covered (drop (k + 1) rs)) s b;
         sum = omega arith;
         few = omega arith;

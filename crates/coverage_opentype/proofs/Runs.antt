@@ -1,18 +1,13 @@
--- The parts that `chunk_by` makes of a glyph list are its unbroken runs.
-use Rattle.std.proofs.Common.{◌≡◌, ℕ, zero, suc, false, ◌+◌, ◌-◌, ◌<◌, Bool, eqb, List, [], ◌∷◌, ◌++◌, length, get_or, sym, refl, ap, ◌∙◌, arith, length-append}
+-- The parts that `chunk_by` makes of a glyph list are its unbroken runs, and how many runs a list has.
+use Rattle.std.proofs.Common.{◌≡◌, ℕ, zero, suc, false, ◌+◌, ◌-◌, ◌<◌, ◌≤◌, ◌&&◌, Bool, cond, eqb, ltb, List, [], ◌∷◌, ◌++◌, length, get_or, drop, sym, refl, ap, ◌∙◌, inl, inr, arith, length-append}
 use Rattle.std.specs.List.{range_with_len, IsChunkByPrefix}
-use Rattle.std.specs.Iterator.{Yields, Drains}
-use Rattle.std.specs.Slice.Iter.{chunk_by_rest, chunk_by_callee, chunk_by_steps}
-use Rattle.std.specs.Fn.{ComputesOnPairs}
-use Rattle.std.specs.declared.slice.ChunkBy.{ChunkBy}
-use denote.Param.Members.{Mut}
-use denote.Bor.{Bor}
-use Rattle.std.proofs.lemmas.List.{ext_get_or, get_or_append_left, get_or-append-add}
+use Rattle.std.proofs.lemmas.List.{ext_get_or, get_or_append_left, get_or-append-add, at_drop_more}
 use Rattle.std.proofs.lemmas.List.FromFn.{length-range_with_len, get_or-range_with_len}
-use Rattle.std.proofs.lemmas.Bool.{eqb-true, eq-eqb, both_ways}
+use Rattle.std.proofs.lemmas.Bool.{eqb-true, eq-eqb, both_ways, cases_Bool, cond-true, cond-false, le-ltb}
+use Rattle.coverage.specs.Glyphs.{above, rises}
 use Rattle.coverage_opentype.specs.declared.ranges.GlyphRange.{GlyphRange}
 use Rattle.coverage_opentype.specs.Format2.{runs_from, runs}
-use Rattle.coverage_opentype.specs.Unbroken.{run, runs_break, runs_through}
+use Rattle.coverage_opentype.specs.Unbroken.{run, runs_on, runs_break, runs_through}
 
 abbrev pub follows_it : ℕ → ℕ → Bool
 follows_it a b = eqb b (suc a)
@@ -68,12 +63,38 @@ pub no_length : (gs : List ℕ) → length gs ≡ 0 → gs ≡ []
 no_length [] e = refl
 no_length (g ∷ gs) e = absurd (omega arith)
 
-module _ {F : Type 0} (g : Mut F (Bor ℕ × (Bor ℕ × Unit {0})) Bool) where
-  runs_passed : (i : ℕ) (xs : List (Bor (List ℕ))) (s t : ChunkBy ℕ F) → ComputesOnPairs g follows_it (chunk_by_callee s) → Yields (chunk_by_steps g) s xs t → length (chunk_by_rest t) ≡ 0 → length xs ≡ length (runs_at i (chunk_by_rest s))
-  runs_passed i [] s t c y e = ap (λ z. length (runs_at i z)) (sym (no_length (chunk_by_rest s) (ap (λ (z : ChunkBy ℕ F). length (chunk_by_rest z)) y ∙ e)))
-  runs_passed i (x ∷ xs) s t c (j, d, y) e =
-      let m = d.2 follows_it c in
-      ap suc (runs_passed (i + length x.now) xs j t m.0 y e) ∙ sym (ap length (one_run i (chunk_by_rest s) x.now (chunk_by_rest j) d.0 d.1 m.1))
+-- how many runs: one, and one more at each break
+abbrev pub break_at : ℕ → ℕ → ℕ
+break_at l g = cond (follows_it l g) 0 1
 
-  pub runs_counted : (gs : List ℕ) (s : ChunkBy ℕ F) (n : ℕ) → chunk_by_rest s ≡ gs → ComputesOnPairs g follows_it (chunk_by_callee s) → (xs : List (Bor (List ℕ))) × Drains (chunk_by_steps g) s xs × (n ≡ length xs) → n ≡ length (runs gs)
-  runs_counted gs s n e c (xs, (u, (t, y, (z, q))), l) = l ∙ runs_passed 0 xs s t c y z ∙ ap (λ k. length (runs_at 0 k)) e ∙ ap length (runs_are gs)
+abbrev pub breaks : ℕ → List ℕ → ℕ
+breaks l [] = 0
+breaks l (g ∷ gs) = break_at l g + breaks g gs
+
+pub length_runs : (s l i : ℕ) (gs : List ℕ) → length (runs_from s l i gs) ≡ suc (breaks l gs)
+length_runs s l i [] = refl
+length_runs s l i (g ∷ gs) =
+    elim (cases_Bool (follows_it l g)) [
+      | inl t ↦
+          let h = length_runs s g i gs in
+          let b : break_at l g ≡ 0 = cond-true (follows_it l g) 0 1 t in
+          let r = ap length (runs_on s l i g gs (eqb-true _ _ t)) in
+          omega arith
+      | inr f ↦
+          let h = length_runs g g (i + (suc l - s)) gs in
+          let b : break_at l g ≡ 1 = cond-false (follows_it l g) 0 1 f in
+          let r = ap length (runs_break s l i g gs (λ e. both_ways _ f (eq-eqb g (suc l) e))) in
+          omega arith
+    ]
+
+pub runs_counted : (gs : List ℕ) → 0 < length gs → 1 + breaks (get_or gs 0 0) (drop 1 gs) ≡ length (runs gs)
+runs_counted [] h = absurd (omega arith)
+runs_counted (g ∷ gs) h = let l = length_runs g g 0 gs in omega arith
+
+pub rises_behind : (gs : List ℕ) → 0 < length gs → rises gs ≡ above (get_or gs 0 0) (drop 1 gs)
+rises_behind [] h = absurd (omega arith)
+rises_behind (g ∷ gs) h = refl
+
+pub above_stop : (xs : List ℕ) (k last g : ℕ) → k < length xs → g ≡ get_or xs k 0 → g ≤ last → above last (drop k xs) ≡ false
+above_stop xs k last g lt is down =
+    at_drop_more (above last) xs k 0 lt ∙ ap (λ z. ltb last z && above z (drop (k + 1) xs)) (sym is) ∙ ap (λ t. t && above g (drop (k + 1) xs)) (le-ltb last g down)

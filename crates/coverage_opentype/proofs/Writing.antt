@@ -18,7 +18,7 @@ use Rattle.coverage_opentype.proofs.Runs.{follows_it, runs_at, runs_are, one_run
 abbrev pub heading : List ℕ → ℕ → List ℕ
 heading gs k = value_bytes (2 ∷ length (runs gs) ∷ range_values (take k (runs gs)))
 
-length-heading : (gs : List ℕ) (k : ℕ) → k ≤ length (runs gs) → length (heading gs k) ≡ 4 + 6 * k
+pub length-heading : (gs : List ℕ) (k : ℕ) → k ≤ length (runs gs) → length (heading gs k) ≡ 4 + 6 * k
 length-heading gs k le =
     let a = length-value_bytes (2 ∷ length (runs gs) ∷ range_values (take k (runs gs))) in
     let b = length-range_values (take k (runs gs)) in
@@ -32,7 +32,7 @@ begin gs old a b n room e p q =
     q ∙ ap (put16 a 2) e ∙ ap (λ z. put16 z 2 (length (runs gs))) (p ∙ s1) ∙ s2
 
 -- the range at hand is written
-heading_more : (gs : List ℕ) (k : ℕ) (r : GlyphRange) (rest : List GlyphRange) → drop k (runs gs) ≡ r ∷ rest → k < length (runs gs) → heading gs k ++ record_bytes r ≡ heading gs (k + 1)
+pub heading_more : (gs : List ℕ) (k : ℕ) (r : GlyphRange) (rest : List GlyphRange) → drop k (runs gs) ≡ r ∷ rest → k < length (runs gs) → heading gs k ++ record_bytes r ≡ heading gs (k + 1)
 heading_more gs k r rest e lt =
     let d = drop_more (runs gs) k r lt in
     let is : get_or (runs gs) k r ≡ r = cc in
@@ -76,7 +76,7 @@ module _ (gs old now : List ℕ) (i k : ℕ) (left part rest : List ℕ) (w : Wr
       let t = length-append part rest in
       (omega arith, omega arith)
 
-  written_next : (next : List ℕ) → next ≡ take (4 + 6 * k) now ++ (record_bytes next_run ++ drop (10 + 6 * k) now) → WrittenTo gs old (i + length part) (k + 1) rest next
+  pub written_next : (next : List ℕ) → next ≡ take (4 + 6 * k) now ++ (record_bytes next_run ++ drop (10 + 6 * k) now) → WrittenTo gs old (i + length part) (k + 1) rest next
   written_next next n =
       let m = more_to_write in
       let s = w.sum in
@@ -92,9 +92,9 @@ module _ (gs old now : List ℕ) (i k : ℕ) (left part rest : List ℕ) (w : Wr
       }
 
   -- the same as the loop counts
-  pub written_more : (next : List ℕ) (n k' : ℕ) → n ≡ k → k' ≡ k + 1 → next ≡ take (4 + 6 * n) now ++ (record_bytes next_run ++ drop (10 + 6 * n) now) → WrittenTo gs old (i + length part) k' rest next
-  written_more next n k' a b h =
-      subst (λ z. WrittenTo gs old (i + length part) z rest next) (sym b) (written_next next (h ∙ ap (λ z. take (4 + 6 * z) now ++ (record_bytes next_run ++ drop (10 + 6 * z) now)) a))
+  pub written_more : (next : List ℕ) (n k' i' : ℕ) → n ≡ k → k' ≡ k + 1 → i' ≡ i + length part → next ≡ take (4 + 6 * n) now ++ (record_bytes next_run ++ drop (10 + 6 * n) now) → WrittenTo gs old i' k' rest next
+  written_more next n k' i' a b u h =
+      subst (λ z. WrittenTo gs old z k' rest next) (sym u) (subst (λ z. WrittenTo gs old (i + length part) z rest next) (sym b) (written_next next (h ∙ ap (λ z. take (4 + 6 * z) now ++ (record_bytes next_run ++ drop (10 + 6 * z) now)) a)))
 
 pub written_all : (gs old now left : List ℕ) (i k : ℕ) → length left ≡ 0 → WrittenTo gs old i k left now → now ≡ range_bytes gs ++ drop (range_span gs) old
 written_all gs old now left i k z w =

@@ -1,4 +1,5 @@
 pub mod Checked
+pub mod Tables
 pub mod Format2
 pub mod OpenType
 pub mod Planning

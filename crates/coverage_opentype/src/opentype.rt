@@ -5,6 +5,7 @@ ghost use Rattle.coverage.specs.Meaning.{Sized, Written, written_as};
 ghost use Rattle.coverage_list.specs.Format1.{array_meaning};
 ghost use Rattle.coverage_opentype.specs.Format2.{meant};
 ghost use Rattle.coverage_opentype.specs.OpenType.{open_type_meaning, open_type_bytes, open_type_span, RunsAreUnbroken};
+ghost use Rattle.coverage_opentype.specs.Tables.{ranges_in};
 ghost use Rattle.coverage_opentype.specs.Planning.{Planned};
 ghost use Rattle.coverage_opentype.specs.Choosing;
 ghost use Rattle.coverage.proofs.Lists.{list_parts};
@@ -22,7 +23,7 @@ pub struct OpenTypeCodec;
 // The ranges of a format 2 table. Other bytes mean what they mean in format 1: the calls below match on this, each with
 // another call of the two.
 fn ranges_of(bytes: &[u8]) -> Option<RangeTable<'_>>
-    ensures { MatchOption result (open_type_meaning bytes.now ≡ array_meaning bytes.now) (λ ranges. open_type_meaning bytes.now ≡ Some (meant ranges)) }
+    ensures { MatchOption result (open_type_meaning bytes.now ≡ array_meaning bytes.now) (λ table. open_type_meaning bytes.now ≡ Some (meant (ranges_in table))) }
 {
     RangeTable::read(bytes).ok()
 }

@@ -2,15 +2,13 @@
 ghost use Rattle.std.specs.Prelude.{◌≡◌, ℕ, suc, ◌==◌, ◌+◌, ◌-◌, ◌*◌, ◌<◌, ◌≤◌, true, List, ◌++◌, Some, map, length, take, drop};
 ghost use Rattle.std.specs.List.{range_with_len};
 ghost use Rattle.coverage.specs.Glyphs.{GlyphList, index_in};
-ghost use Rattle.coverage.specs.Meaning.{glyph_at, copied};
-ghost use Rattle.coverage_opentype.specs.Format2.{range_of, record_bytes, covers, covered, meant, runs, range_bytes, range_span};
-ghost use Rattle.coverage_opentype.specs.Checked.{Totalled, TableRead, RunsCounted};
+ghost use Rattle.coverage.specs.Meaning.{counted, ended, glyph_at, indexed, copied};
+ghost use Rattle.coverage_opentype.specs.Format2.{range_of, record_bytes, covers, covered, in_order, meant, range_meaning, runs, range_bytes, range_span};
+ghost use Rattle.coverage_opentype.specs.Checked.{Totalled, RunsCounted};
 
-use coverage::glyphs::is_glyph_list;
 use data_bytes::{put_word, word_at};
 use refusals::CodecFault;
 use std::cmp::Ordering;
-use std::marker::Model;
 
 /// A range record: the glyphs from `start` to `end`, the first of them at the coverage index `index`.
 #[derive(Clone, Copy, Debug, PartialEq, Eq)]
@@ -66,24 +64,14 @@ fn count_up(start: u16, slots: &mut [u16])
 }
 
 /// The ranges of a format 2 table that means something, each as its six bytes.
-// Not `Copy`, and without equality: a model with these must give its fields back.
-#[derive(Drop)]
+// In order; `glyphs` counts what they cover, no more than a coverage may.
+#[derive(Clone, Copy, Debug, PartialEq, Eq)]
 pub struct RangeTable<'a> {
     records: &'a [[u8; 6]],
     glyphs: usize,
-}
-
-// Seen as its ranges. They are in order, and `glyphs` counts what they cover: no more than a coverage may.
-impl<'a> Model for RangeTable<'a> {
-    ghost use Rattle.std.specs.Prelude.{◌≡◌, ◌≤◌, List, true, map, length};
-    ghost use Rattle.coverage_opentype.specs.declared.ranges.GlyphRange.{GlyphRange};
-    ghost use Rattle.coverage_opentype.specs.Format2.{range_of, covered, in_order};
-
-    ghost Value = { List GlyphRange };
-
-    ghost view = { λ t. map range_of t.records.now };
-
-    ghost invariant = { λ t. (in_order (map range_of t.records.now) ≡ true) × (t.glyphs ≡ length (covered (map range_of t.records.now))) × (t.glyphs ≤ 65535) };
+    ghost order: { in_order (map range_of records.now) ≡ true },
+    ghost total: { glyphs ≡ length (covered (map range_of records.now)) },
+    ghost few: { glyphs ≤ 65535 },
 }
 
 // How many glyphs ranges cover, if they are in order.
@@ -106,6 +94,9 @@ fn covered_count(records: &[[u8; 6]]) -> Option<usize>
 }
 
 impl<'a> RangeTable<'a> {
+    // Not imported at the top of the file: they name the table, so that would be circular.
+    ghost use Rattle.coverage_opentype.specs.Tables.{ranges_in, TableRead};
+
     /// The table at the front of some bytes, if they mean anything in format 2.
     pub fn read(bytes: &'a [u8]) -> Result<RangeTable<'a>, CodecFault>
         ensures { TableRead bytes.now result }
@@ -125,21 +116,21 @@ impl<'a> RangeTable<'a> {
 
     /// How many glyphs it covers.
     pub fn count(&self) -> usize
-        ensures { result ≡ length (covered self.now) }
+        ensures { result ≡ length (covered (ranges_in self.now)) }
     {
         self.glyphs
     }
 
     /// Where it ends.
     pub fn end(&self) -> usize
-        ensures { result ≡ 4 + 6 * length self.now }
+        ensures { result ≡ 4 + 6 * length (ranges_in self.now) }
     {
         4 + 6 * self.records.len()
     }
 
     /// The n-th glyph that it covers, from 0.
     pub fn glyph(&self, n: usize) -> Result<u16, CodecFault>
-        ensures { result ≡ glyph_at (Some (meant self.now)) n }
+        ensures { result ≡ glyph_at (Some (meant (ranges_in self.now))) n }
     {
         // From the front, as `read` went over all records already.
         for record in self.records {
@@ -154,7 +145,7 @@ impl<'a> RangeTable<'a> {
 
     /// Where a glyph stands among those that it covers, by binary search.
     pub fn index_of(&self, glyph: u16) -> Option<usize>
-        ensures { result ≡ index_in glyph (covered self.now) }
+        ensures { result ≡ index_in glyph (covered (ranges_in self.now)) }
     {
         let side = |record: &[u8; 6]| {
             let range = GlyphRange::from(*record);
@@ -173,7 +164,7 @@ impl<'a> RangeTable<'a> {
 
     /// Copies all glyphs that it covers to the front of a slice, and tells how many they are.
     pub fn copy_to(&self, out: &mut [u16]) -> Result<usize, CodecFault>
-        ensures { (result, out.new) ≡ copied (Some (meant self.now)) out.old }
+        ensures { (result, out.new) ≡ copied (Some (meant (ranges_in self.now))) out.old }
     {
         if self.glyphs > out.len() {
             return Err(CodecFault::NoSpace);
@@ -183,6 +174,41 @@ impl<'a> RangeTable<'a> {
         }
         Ok(self.glyphs)
     }
+}
+
+/// How many glyphs a format 2 table covers.
+pub fn range_count(bytes: &[u8]) -> Result<usize, CodecFault>
+    ensures { result ≡ counted (range_meaning bytes.now) }
+{
+    Ok(RangeTable::read(bytes)?.count())
+}
+
+/// Where a format 2 table ends.
+pub fn range_end(bytes: &[u8]) -> Result<usize, CodecFault>
+    ensures { result ≡ ended (range_meaning bytes.now) }
+{
+    Ok(RangeTable::read(bytes)?.end())
+}
+
+/// The n-th glyph of a format 2 table.
+pub fn range_glyph(bytes: &[u8], n: usize) -> Result<u16, CodecFault>
+    ensures { result ≡ glyph_at (range_meaning bytes.now) n }
+{
+    RangeTable::read(bytes)?.glyph(n)
+}
+
+/// Where a glyph stands in a format 2 table.
+pub fn range_index(bytes: &[u8], glyph: u16) -> Result<Option<usize>, CodecFault>
+    ensures { result ≡ indexed (range_meaning bytes.now) glyph }
+{
+    Ok(RangeTable::read(bytes)?.index_of(glyph))
+}
+
+/// Copies all glyphs of a format 2 table to the front of a slice.
+pub fn ranges_into(bytes: &[u8], out: &mut [u16]) -> Result<usize, CodecFault>
+    ensures { (result, out.new) ≡ copied (range_meaning bytes.now) out.old }
+{
+    RangeTable::read(bytes)?.copy_to(out)
 }
 
 /// Whether a glyph is the next one behind another.
@@ -196,11 +222,22 @@ pub fn follows(glyph: &u16, next: &u16) -> bool
 pub fn run_count(glyphs: &[u16]) -> Option<usize>
     ensures { RunsCounted glyphs.now result }
 {
-    if is_glyph_list(glyphs) {
-        Some(glyphs.chunk_by(follows).count())
-    } else {
-        None
+    if !(1..=65535).contains(&glyphs.len()) {
+        return None;
     }
+    let mut last = glyphs[0];
+    let mut count = 1;
+    // The order is tested on the way, so that the list is gone over once.
+    for &glyph in &glyphs[1..] {
+        if glyph <= last {
+            return None;
+        }
+        if glyph - last > 1 {
+            count += 1;
+        }
+        last = glyph;
+    }
+    Some(count)
 }
 
 // Writes a range record behind k others.

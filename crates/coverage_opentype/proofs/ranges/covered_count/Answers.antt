@@ -14,12 +14,12 @@ returns-then-start-low c =
     (elim c.then-start-low.branch [
       | then-start-low-via-then-start-low w ↦ inl w.if-start-low.true
       | then-start-low-via-else-start-low+then-end-start w ↦ inr (inl w.if-end-start.true)
-      | then-start-low-via-else-start-low+else-end-start+then-range-total w ↦ inr (inr w.if-range-total.true)
+      | then-start-low-via-else-start-low+else-end-start+then-range-total w ↦ inr (inr (λ e. w.if-range-total.true (omega arith)))
     ])
 
 pub loop-record-preserved : goal.loop-record-preserved
 loop-record-preserved c =
-    walked_more _ _ _ _ _ _ c.loop-record-test.true c.from-range.ensures c.loop-record.invariant c.if-start-low.false c.if-end-start.false c.if-range-total.false (omega arith)
+    walked_more _ _ _ _ _ _ c.loop-record-test.true c.from-range.ensures c.loop-record.invariant c.if-start-low.false c.if-end-start.false (omega arith) (omega arith) _ _ (omega arith) (omega arith)
 
 pub returns : goal.returns
 returns c = let l : length (map range_of c.args.records.now) ≡ length c.args.records.now = length-map c.args.records.now range_of in walked_all _ _ _ _ (omega arith) c.loop-record.invariant

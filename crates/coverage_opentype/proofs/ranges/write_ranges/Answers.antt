@@ -58,7 +58,7 @@ overflow_add-index c =
 pub loop-done-preserved : goal.loop-done-preserved
 loop-done-preserved c =
     let f = c.in-Some.ensures.steps in
-    written_more _ _ _ _ _ _ _ _ c.loop-done.invariant f.0.0 f.0.1 (unbroken (goal.at.loop-done-preserved c).In-Some) _ _ _ f.1 f.2 c.put_range.ensures
+    written_more _ _ _ _ _ _ _ _ c.loop-done.invariant f.0.0 f.0.1 (unbroken (goal.at.loop-done-preserved c).In-Some) _ _ _ _ f.1 f.2 (omega arith) c.put_range.ensures
 
 pub returns : goal.returns
 returns c = written_all _ _ _ _ _ _ c.in-None.ensures.steps.0.0 c.loop-done.invariant

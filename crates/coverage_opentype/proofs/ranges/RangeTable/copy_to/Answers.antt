@@ -1,17 +1,17 @@
-use Rattle.std.proofs.Common.{◌≡◌, ◌++◌, length, drop, ap, ◌∙◌, sym, arith}
-use Rattle.coverage_opentype.specs.Format2.{covered}
+use Rattle.std.proofs.Common.{◌++◌, length, drop, refl, ap, ◌∙◌, sym, arith}
+use Rattle.coverage_opentype.specs.Tables.{ranges_in}
 use Rattle.coverage_opentype.proofs.Reading.{Kth, kth_record, copied_more}
 use Rattle.coverage_opentype.proofs.ranges.RangeTable.copy_to.Goals as goal
 use Rattle.coverage_opentype.proofs.ranges.RangeTable.copy_to.Goals.{After-from}
 
 -- what is known of the range at hand
-at_hand : (c : goal.After-from) → Kth c.args.self.now c.loop-record.record-index c.from.result
-at_hand c = kth_record _ _ _ _ _ c.self.view_is c.self.invariant.0 c.loop-record-test.true c.from.ensures
+at_hand : (c : goal.After-from) → Kth (ranges_in c.args.self.now) c.loop-record.record-index c.from.result
+at_hand c = kth_record _ _ _ _ _ refl c.args.self.now.order c.loop-record-test.true c.from.ensures
 
 pub copy_to-requires : goal.copy_to-requires
 copy_to-requires c =
     let t = at_hand (goal.at.copy_to-requires c).After-from in
-    let n : c.self.inside.glyphs ≡ length (covered c.args.self.now) = c.self.invariant.1 ∙ ap (λ z. length (covered z)) c.self.view_is in
+    let n = c.args.self.now.total in
     (t.goes, omega (arith, t.within))
 
 pub loop-record-preserved : goal.loop-record-preserved

@@ -4,12 +4,13 @@ use Rattle.std.proofs.lemmas.Option.{MatchOption-at_some}
 use Rattle.refusals.specs.declared.CodecFault.{CodecFault}
 use Rattle.refusals.specs.declared.CodecFault.TheVariants.{NoMeaning}
 use Rattle.coverage_opentype.specs.declared.ranges.RangeTable.{RangeTable}
-use Rattle.coverage_opentype.specs.Checked.{TableRead, Totalled}
+use Rattle.coverage_opentype.specs.Checked.{Totalled}
+use Rattle.coverage_opentype.specs.Tables.{TableRead}
 use Rattle.coverage_opentype.specs.Format2.{range_of, ranges_at, range_meaning}
 use Rattle.coverage_opentype.specs.Covering.{table_found, no_table_lem}
 use Rattle.coverage_opentype.proofs.Reading.{no_order, no_length, list_of, chunks_many, records_are}
 use Rattle.coverage_opentype.proofs.ranges.RangeTable.read.Goals as goal
-use Rattle.coverage_opentype.proofs.ranges.RangeTable.read.Goals.{In_ok-records, then-bytes-lt4-via-then-bytes-lt4, then-bytes-lt4-via-else-bytes-lt4+then-word_at-ne2}
+use Rattle.coverage_opentype.proofs.ranges.RangeTable.read.Goals.{In_ok-records, then-bytes-lt4-via-then-bytes-lt4, then-bytes-lt4-via-else-bytes-lt4+then-word_at-ne2, then-glyphs-eq0-via-then-glyphs-eq0, then-glyphs-eq0-via-else-glyphs-eq0+then-glyphs-gt65535}
 
 -- the records are there, and are the ranges of the bytes
 cut : (c : goal.In_ok-records) → (c.word_at-ranges.result ≤ length c.as_chunks.result.0.now) × (map range_of c.in_ok-records.records.now ≡ ranges_at c.args.bytes.now c.word_at-ranges.result)
@@ -47,12 +48,17 @@ returns-in_err-glyphs c =
 pub returns-then-glyphs-eq0 : goal.returns-then-glyphs-eq0
 returns-then-glyphs-eq0 c =
     let e = cut (goal.at.returns-then-glyphs-eq0 c).In_ok-records in
-    let t = subst (Totalled (map range_of c.in_ok-records.records.now)) c.in_ok-glyphs.ensures.ok_part c.covered_count.ensures in
-    (no_length _ _ _ c.word_at-ranges.ensures e.1 _ t.2 (λ a b. ⊎_elim (λ z. omega arith) (λ z. omega (arith, z.1)) c.then-glyphs-eq0.either), refl)
+    let t = subst (Totalled (map range_of c.in_ok-records.records.now)) c.in_ok-glyphs.ensures.ok_part c.covered_count.ensures in (
+      no_length _ _ _ c.word_at-ranges.ensures e.1 _ t.2 (λ a b. elim c.then-glyphs-eq0.branch [
+        | then-glyphs-eq0-via-then-glyphs-eq0 w ↦ omega arith
+        | then-glyphs-eq0-via-else-glyphs-eq0+then-glyphs-gt65535 w ↦ omega arith
+      ]),
+      refl,
+    )
 
 pub returns : goal.returns
 returns c =
     let e = cut (goal.at.returns c).In_ok-records in
     let m = chunks_many c.args.bytes.now c.as_chunks.result.0.now [] c.word_at-ranges.result c.if-bytes-lt4.false c.as_chunks.ensures.front_len in
     let t = subst (Totalled (map range_of c.in_ok-records.records.now)) c.in_ok-glyphs.ensures.ok_part c.covered_count.ensures in
-    table_found _ _ _ c.word_at-ranges.ensures e.1 c.if-bytes-lt4.false (omega arith) (m.0 e.0) t.0 (list_of _ _ t.0 t.1 t.2 (omega arith) c.if-glyphs-gt65535.false)
+    table_found _ _ _ c.word_at-ranges.ensures e.1 c.if-bytes-lt4.false (omega arith) (m.0 e.0) t.0 (list_of _ _ t.0 t.1 t.2 (omega arith) (omega arith))
